@@ -1,0 +1,5 @@
+mod Laws
+mod Sizes
+mod Tiling
+mod Walk
+pub mod Ranges

@@ -1,0 +1,4 @@
+pub mod Layout
+pub mod Placed
+pub mod Ranges
+pub mod Laws

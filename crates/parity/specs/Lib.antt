@@ -1,0 +1,5 @@
+pub mod Code
+pub mod Sound
+pub mod Table
+pub mod Ring
+pub mod Bytes
