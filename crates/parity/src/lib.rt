@@ -13,6 +13,7 @@ ghost use Rattle.parity.specs.Sound.{Sound, AlteredIsNone};
 ghost use Rattle.parity.specs.Table.{bcnav3};
 ghost use Rattle.std.specs.Results.{Cases};
 ghost use Rattle.std.specs.declared.option.Option.the-variants.{None, Some};
+use sums::sum;
 
 mod encoder;
 mod sums;
@@ -75,7 +76,12 @@ impl Symbols<162> {
         ensures sound { λ _. ⌜ Sound bcnav3 ⌝ }
         ensures altered { λ _. ⌜ ((c : Code) → Sound c → AlteredIsNone c) ⌝ }
     {
-        sums::first_nonzero(&self.bytes)
+        for r in 0..81usize {
+            if sum(&self.bytes, r) != 0 {
+                return Some(r);
+            }
+        }
+        None
     }
 
     /// The message that the word begins with.

@@ -1,7 +1,6 @@
 //! The sums of the rows of the parity-check table.
 ghost use mathlib.Core.Path.{_≡_};
 ghost use Prim.Native.Nat.{_<_};
-ghost use Rattle.parity.specs.Bytes.{firstNonzero};
 ghost use Rattle.parity.specs.Code.{SymbolList, symAt, rowSum};
 ghost use Rattle.parity.specs.Ring.{term as termAt};
 ghost use Rattle.parity.specs.Table.{bcnav3};
@@ -19,23 +18,11 @@ pub fn term(word: &[u8; 162], r: usize, j: usize) -> u8
     product(factor(r, j), word[place(r, j)])
 }
 
-fn sum(word: &[u8; 162], r: usize) -> u8
+/// The sum of row `r`.
+pub fn sum(word: &[u8; 162], r: usize) -> u8
     requires { ⌜ SymbolList 162 (now word) ⌝ }
     requires { ⌜ r < 81 ⌝ }
     ensures { λ v. ⌜ v ≡ rowSum bcnav3 r (now (word .entry)) ⌝ }
 {
     (term(word, r, 0) ^ term(word, r, 1)) ^ (term(word, r, 2) ^ term(word, r, 3))
-}
-
-/// The first row whose sum is not 0.
-pub fn first_nonzero(word: &[u8; 162]) -> Option<usize>
-    requires { ⌜ SymbolList 162 (now word) ⌝ }
-    ensures { λ r. ⌜ r ≡ firstNonzero (now (word .entry)) ⌝ }
-{
-    for r in 0..81usize {
-        if sum(word, r) != 0 {
-            return Some(r);
-        }
-    }
-    None
 }
