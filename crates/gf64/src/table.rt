@@ -202,14 +202,14 @@ const EXP: [u8; 126] = [
     33,
 ];
 
-pub fn log(a: u8) -> u8
+pub(crate) fn log(a: u8) -> u8
     requires { ⌜ a < 64 ⌝ }
     ensures { λ r. ⌜ r ≡ getD logs a 0 ⌝ }
 {
     LOG[a as usize]
 }
 
-pub fn exp(i: u8) -> u8
+pub(crate) fn exp(i: u8) -> u8
     requires { ⌜ i < 126 ⌝ }
     ensures { λ r. ⌜ r ≡ getD exps i 0 ⌝ }
 {

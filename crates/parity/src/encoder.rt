@@ -53,7 +53,7 @@ fn place_of(k: usize) -> usize
 }
 
 /// Writes the check symbols, 81 to 161, of the message in symbols 0 to 80.
-pub fn fill(word: &mut [u8; 162])
+pub(crate) fn fill(word: &mut [u8; 162])
     requires { ⌜ SymbolList 162 (now word) ⌝ }
     ensures codeword { λ _. ⌜ Codeword bcnav3 (now (word .exit)) ⌝ }
     ensures kept { λ _. ⌜ ((k : ℕ) → k < 81 → symAt (now (word .exit)) k ≡ symAt (now (word .entry)) k) ⌝ }

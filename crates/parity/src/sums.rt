@@ -9,7 +9,7 @@ use crate::table::place;
 use gf64::product;
 
 /// The symbol at the place number `j` of row `r`, times its factor.
-pub fn term(word: &[u8; 162], r: usize, j: usize) -> u8
+pub(crate) fn term(word: &[u8; 162], r: usize, j: usize) -> u8
     requires { ⌜ SymbolList 162 (now word) ⌝ }
     requires { ⌜ r < 81 ⌝ }
     requires { ⌜ j < 4 ⌝ }
@@ -19,7 +19,7 @@ pub fn term(word: &[u8; 162], r: usize, j: usize) -> u8
 }
 
 /// The sum of row `r`.
-pub fn sum(word: &[u8; 162], r: usize) -> u8
+pub(crate) fn sum(word: &[u8; 162], r: usize) -> u8
     requires { ⌜ SymbolList 162 (now word) ⌝ }
     requires { ⌜ r < 81 ⌝ }
     ensures { λ v. ⌜ v ≡ rowSum bcnav3 r (now (word .entry)) ⌝ }

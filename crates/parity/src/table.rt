@@ -274,7 +274,7 @@ const RING: [(u8, u8); 81] = [
 ];
 
 /// The place number `j` of row `r`.
-pub fn place(r: usize, j: usize) -> usize
+pub(crate) fn place(r: usize, j: usize) -> usize
     requires { ⌜ r < 81 ⌝ }
     requires { ⌜ j < 4 ⌝ }
     ensures same { λ v. ⌜ v ≡ placeAt r j ⌝ }
@@ -284,7 +284,7 @@ pub fn place(r: usize, j: usize) -> usize
 }
 
 /// The factor of the place number `j` of row `r`.
-pub fn factor(r: usize, j: usize) -> u8
+pub(crate) fn factor(r: usize, j: usize) -> u8
     requires { ⌜ r < 81 ⌝ }
     requires { ⌜ j < 4 ⌝ }
     ensures same { λ v. ⌜ v ≡ factorAt r j ⌝ }
@@ -294,7 +294,7 @@ pub fn factor(r: usize, j: usize) -> u8
 }
 
 /// The turn number `k`.
-pub fn turn_at(k: usize) -> Turn
+pub(crate) fn turn_at(k: usize) -> Turn
     requires { ⌜ k < 81 ⌝ }
     ensures same { λ v. ⌜ v ≡ turnAt k ⌝ }
     ensures row { λ v. ⌜ v .row < 81 ⌝ }
