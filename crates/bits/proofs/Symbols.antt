@@ -1,16 +1,17 @@
--- The bits of a row of symbols, and the numbers that parts of them write.
+-- The bits of a row of symbols: the numbers that parts of them write, and one bit written.
 use mathlib.Core.List.{List, [], _∷_, _++_}
 use mathlib.Core.Path.{_≡_, refl, sym, ap, _∙_}
-use native.Mathlib.Nat.{add-mul, mul-assoc, div-div-eq-div-mul, pow-succ', pow-le-pow-right}
+use native.Mathlib.Nat.{zero-add, div-div-eq-div-mul, pow-le-pow-right}
 use native.Mathlib.Omega.{arith}
 use Prim.Native.Nat.{ℕ, zero, suc, _+_, _-_, _*_, _/_, _%_, _^_, _<_, _≤_}
-use lib.ListN.{length, take, drop, length-drop, getD}
+use lib.ListN.{length, take, drop, set, length-drop, length-set, getD}
 use Rattle.std.specs.shelf.Digits.{number, numberAfter, Under}
-use Rattle.std.proofs.shelf.Bits.{shr-high, mod-low}
-use Rattle.std.proofs.shelf.Digits.{number-lt, numberAfter-append}
-use Rattle.std.proofs.shelf.Elements.{all-take, all-drop}
-use Rattle.std.proofs.shelf.Lists.{length-take, length-take-le, take-append-drop, take-more, take-take, drop-take, drop-drop}
-use Rattle.bits.specs.Bits.{bitsOf, part}
+use Rattle.std.proofs.shelf.Bits.{shl-whole, shr-high, mod-low}
+use Rattle.std.proofs.shelf.Digits.{number-lt, numberAfter-append, numberAfter-lt}
+use Rattle.std.proofs.shelf.Elements.{all-set, all-take, all-drop}
+use Rattle.std.proofs.shelf.Lists.{length-take, length-take-le, set-append-left, take-append-drop, take-more, take-take, drop-take, drop-drop}
+use Rattle.bits.specs.Bits.{bitsOf, part, spelled}
+use Rattle.bits.proofs.Spelled.{after-is, number-set, spelled-at, spelled-number}
 
 pub length-bits : (ss : List ℕ) → length (bitsOf ss) ≡ 6 * length ss
 length-bits [] = refl
@@ -78,18 +79,6 @@ number-symbol ss i h =
 
 -- ---- the middle of a row of bits
 
-after-is : (bs : List ℕ) (a : ℕ) → numberAfter 2 a bs ≡ a * 2 ^ length bs + number 2 bs
-after-is [] a = omega arith
-after-is (b ∷ bs) a =
-    after-is bs (a * 2 + b)
-    ∙ omega (
-      arith,
-      add-mul (a * 2) b (2 ^ length bs),
-      mul-assoc a 2 (2 ^ length bs),
-      ap (λ k. a * k) (pow-succ' 2 (length bs)),
-      after-is bs (0 * 2 + b),
-    )
-
 number-split : (bs : List ℕ) (n k : ℕ) → length bs ≡ n + k → number 2 bs ≡ number 2 (take n bs) * 2 ^ k + number 2 (drop n bs)
 number-split bs n k h =
     let e : length (drop n bs) ≡ k = omega (arith, length-drop n bs) in
@@ -128,3 +117,79 @@ middle-bits ss f k a w c h e =
     ∙ ap (λ l. number 2 (take w l)) (drop-take a (w + c) (drop (6 * f) (bitsOf ss)))
     ∙ ap (number 2) (take-take w (w + c) (drop a (drop (6 * f) (bitsOf ss))) (omega arith))
     ∙ ap (λ l. number 2 (take w l)) (drop-drop a (6 * f) (bitsOf ss))
+
+-- ---- one bit written
+
+-- the symbol s with the bit at the place r of its six made b
+abbrev pub put : ℕ → ℕ → ℕ → ℕ
+put s r b = s - (s / 2 ^ (5 - r) % 2) * 2 ^ (5 - r) % 256 + b * 2 ^ (5 - r) % 256
+
+six : (s : ℕ) → bitsOf (s ∷ []) ≡ spelled 6 s
+six s = let e : s % 2 ≡ s / 1 % 2 = omega arith in cc
+
+abbrev Put : ℕ → ℕ → ℕ → Type 0
+Put s r b =
+    ((s / 2 ^ (5 - r) % 2) * 2 ^ (5 - r) % 256 ≤ s) × (put s r b ≡ numberAfter 2 (s / 64) (set (bitsOf (s ∷ [])) r b))
+
+pub put-is : (s r b : ℕ) → r < 6 → b < 2 → Put s r b
+put-is s r b h l =
+    let bs : List ℕ = bitsOf (s ∷ []) in
+    let p : ℕ = 2 ^ (5 - r) in
+    let x : ℕ = s / p % 2 in
+    let old : x * p % 256 ≡ x * p = shl-whole x 1 (5 - r) 8 (omega arith) (omega arith) in
+    let new : b * p % 256 ≡ b * p = shl-whole b 1 (5 - r) 8 l (omega arith) in
+    let bit : getD bs r 0 ≡ x = ap (λ l. getD l r 0) (six s) ∙ spelled-at 6 s r h in
+    let whole : numberAfter 2 (s / 64) bs ≡ s = after-symbol (s / 64) s ∙ omega arith in
+    let made : (y : ℕ) → numberAfter 2 (s / 64) (set bs r y) + x * p ≡ s + y * p =
+    λ y. ap (λ z. numberAfter 2 (s / 64) (set bs r y) + z * p) (sym bit) ∙ number-set bs r y (s / 64) h ∙ ap (λ z. z + y * p) whole in
+    (omega (arith, made 0), omega (arith, made 0, made b))
+
+under-set : (s r b : ℕ) → b < 2 → Under 2 (set (bitsOf (s ∷ [])) r b)
+under-set s r b l = all-set _ (bitsOf (s ∷ [])) r b l (under-bits (s ∷ []))
+
+-- what stands above the six bits stays
+pub put-lt : (s r b : ℕ) → r < 6 → b < 2 → put s r b < 64 * (s / 64) + 64
+put-lt s r b h l =
+    omega (
+      arith,
+      put-is s r b h l .1,
+      rw length-set at (numberAfter-lt 2 (s / 64) (set (bitsOf (s ∷ [])) r b) (under-set s r b l)),
+    )
+
+put-six : (s r b : ℕ) → r < 6 → b < 2 → bitsOf (put s r b ∷ []) ≡ set (bitsOf (s ∷ [])) r b
+put-six s r b h l =
+    let bs : List ℕ = set (bitsOf (s ∷ [])) r b in
+    let n : length bs ≡ 6 = length-set (bitsOf (s ∷ [])) r b in
+    six (put s r b) ∙ ap (spelled 6) (put-is s r b h l .1)
+    ∙ ap (λ k. spelled k (numberAfter 2 (s / 64) bs)) (sym n) ∙ spelled-number bs (s / 64) (under-set s r b l)
+
+put-bits : (ss : List ℕ) (i r b : ℕ) → r < 6 → b < 2 → bitsOf (set ss i (put (getD ss i 0) r b)) ≡ set (bitsOf ss) (6 * i + r) b
+put-bits [] i r b h l = refl
+put-bits (s ∷ ss) zero r b h l =
+    ap (λ l. l ++ bitsOf ss) (put-six s r b h l)
+    ∙ rw zero-add (sym (set-append-left (bitsOf (s ∷ [])) (bitsOf ss) r b h))
+put-bits (s ∷ ss) (suc i) r b h l =
+    let e : 6 * suc i + r ≡ suc (suc (suc (suc (suc (suc (6 * i + r)))))) = omega arith in
+    rw e (ap (after s) (put-bits ss i r b h l))
+
+pub put-bit : (ss : List ℕ) (k b : ℕ) → b < 2 → bitsOf (set ss (k / 6) (put (getD ss (k / 6) 0) (k % 6) b)) ≡ set (bitsOf ss) k b
+put-bit ss k b l = put-bits ss (k / 6) (k % 6) b (omega arith) l ∙ ap (λ j. set (bitsOf ss) j b) (omega arith)
+
+pub small-set : (ss : List ℕ) (i t : ℕ) → (getD ss i 0 < 64 → t < 64) → (k : ℕ) → getD ss k 0 < 64 → getD (set ss i t) k 0 < 64
+small-set [] i t h k a = a
+small-set (s ∷ ss) zero t h zero a = h a
+small-set (s ∷ ss) zero t h (suc k) a = a
+small-set (s ∷ ss) (suc i) t h zero a = a
+small-set (s ∷ ss) (suc i) t h (suc k) a = small-set ss i t h k a
+
+-- ---- the symbols of a row of bits
+
+pub symbols-same : (ss ts : List ℕ) → ((k : ℕ) → getD ss k 0 < 64) → ((k : ℕ) → getD ts k 0 < 64) → bitsOf ss ≡ bitsOf ts → ss ≡ ts
+symbols-same [] [] hs ht e = refl
+symbols-same [] (t ∷ ts) hs ht e = absurd (omega (arith, ap length e))
+symbols-same (s ∷ ss) [] hs ht e = absurd (omega (arith, ap length e))
+symbols-same (s ∷ ss) (t ∷ ts) hs ht e =
+    let low : 0 * 64 + s % 64 ≡ 0 * 64 + t % 64 =
+    sym (after-symbol 0 s) ∙ ap (λ l. number 2 (take 6 l)) e ∙ after-symbol 0 t in
+    let first : s ≡ t = omega (arith, hs 0, ht 0) in
+    cc (symbols-same ss ts (λ k. hs (suc k)) (λ k. ht (suc k)) (ap (drop 6) e))

@@ -1,16 +1,22 @@
--- Worked examples: products, the sums of row 0, CRCs, and messages with their answers.
+-- Worked examples: products, the sums of row 0, CRCs, messages with their answers, and counts of fields.
 use mathlib.Core.Bool.{true}
 use mathlib.Core.List.{List, [], _∷_, map}
 use mathlib.Core.Path.{_≡_}
 use Prim.Native.Nat.{ℕ, _+_, _-_, _*_, _/_, _%_, _^_}
-use lib.ListN.{replicate, set}
+use lib.IntN.{ℤ, negsuc, pos}
+use lib.ListN.{getD, replicate, set}
 use Rattle.std.specs.Iters.{counting}
 use Rattle.std.specs.declared.result.Result.{Result}
 use Rattle.std.specs.declared.result.Result.the-variants.{Ok, Err}
 use Rattle.crc.specs.Crc.{crcOfMessage}
 use Rattle.gf64.specs.Field.{mul}
+use Rattle.layout.specs.Layout.{fieldsOf, reserved}
+use Rattle.layout.specs.Ranges.{countOf}
+use Rattle.layout.specs.declared.Field.{Field}
 use Rattle.layout.specs.declared.MessageType.{MessageType}
 use Rattle.layout.specs.declared.MessageType.the-variants.{Type30, Type40}
+use Rattle.layout.specs.declared.Part.{Part}
+use Rattle.layout.specs.declared.Part.the-variants.{Clock, Ionosphere}
 use Rattle.message.specs.Examined.{crcFits, examined}
 use Rattle.message.specs.Refused.{messageRefusal}
 use Rattle.message.specs.declared.answer.Header.{Header}
@@ -20,6 +26,7 @@ use Rattle.parity.specs.Ring.{term}
 use Rattle.parity.specs.Table.{bcnav3}
 use Rattle.refusal.specs.declared.Layer.the-variants.{Message as MessageLayer}
 use Rattle.refusal.specs.declared.Refusal.{Refusal}
+use Rattle.type30.specs.Eighths.{eighthsOf}
 
 -- ---- words and messages to speak of
 
@@ -62,10 +69,17 @@ pub data Claim : Type 0 where
   Accepted : List ℕ → MessageType → ℕ → Claim
   -- the message is refused, with the number and the place
   Refused : List ℕ → ℕ → ℕ → Claim
+  -- the count that a pattern of bits stands for in field number i of a part
+  Counted : Part → ℕ → ℕ → ℤ → Claim
+  -- a count of an ionosphere coefficient in eighths of a TECu
+  Eighths : ℕ → ℤ → ℤ → Claim
 
 abbrev pub RefusedBy : Result Header MessageFault → ℕ → ℕ → Type 0
 RefusedBy (Ok h) n p = ⊥
 RefusedBy (Err e) n p = messageRefusal e ≡ record { number = n; layer = MessageLayer; place = p }
+
+abbrev pub countIn : Field → ℕ → ℤ
+countIn f v = countOf (f .signed) (f .width) v
 
 abbrev pub Holds : Claim → Type 0
 Holds (Product a b c) = mul a b ≡ c
@@ -75,6 +89,8 @@ Holds (CrcOf b c) = crcOfMessage (bitAlone b) ≡ c
 Holds (CrcFits m) = crcFits m ≡ true
 Holds (Accepted m t s) = examined m ≡ Ok (record { «message_type» = t; second = s })
 Holds (Refused m n p) = RefusedBy (examined m) n p
+Holds (Counted p i v z) = countIn (getD (fieldsOf p) i reserved) v ≡ z
+Holds (Eighths k z e) = eighthsOf k z ≡ e
 
 unfoldable pub claims : List Claim
 claims =
@@ -95,4 +111,13 @@ claims =
     -- t_ot
     Accepted (messageOf 30 0 242 16 37799) Type30 0 ∷
     Refused (messageOf 30 0 242 16 37800) 13 242 ∷
+    -- a0: 25 ones, and a one and 24 zeros
+    Counted Clock 1 (2 ^ 25 - 1) (negsuc 0) ∷
+    Counted Clock 1 (2 ^ 24) (negsuc 16777215) ∷
+    -- alpha2: a one and seven zeros is -16 TECu
+    Counted Ionosphere 1 128 (negsuc 127) ∷
+    Eighths 2 (negsuc 127) (negsuc 127) ∷
+    -- alpha5: 8 is -1 TECu
+    Counted Ionosphere 4 8 (pos 8) ∷
+    Eighths 5 (pos 8) (negsuc 7) ∷
     []

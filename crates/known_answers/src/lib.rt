@@ -9,5 +9,5 @@ pub fn known_answers() -> usize
     ensures count { λ r. ⌜ r ≡ length claims ⌝ }
     ensures each { λ _. ⌜ All Holds claims ⌝ }
 {
-    14
+    20
 }

@@ -1,5 +1,5 @@
 mod Laws
-mod Sizes
+pub mod Sizes
 mod Tiling
 mod Walk
 pub mod Ranges

@@ -16,7 +16,7 @@ use Rattle.layout.specs.declared.Field.{Field}
 use Rattle.layout.specs.Placed.{Placed}
 use Rattle.layout.specs.Ranges.{Within, InRange, outside, held, firstOutside, Breaks, First}
 
-within : (f : Field) (z : ℤ) → outside f z ≡ false → Within f z
+pub within : (f : Field) (z : ℤ) → outside f z ≡ false → Within f z
 within f z e = record { low = grind (arith, ints); high = grind (arith, ints) }
 
 not-outside : (f : Field) (z : ℤ) → Within f z → outside f z ≡ false
@@ -25,7 +25,7 @@ not-outside f z w = let a = w .low in let b = w .high in grind (arith, ints)
 not-within : (f : Field) (z : ℤ) → (Within f z → ⊥) → outside f z ≡ true
 not-within f z n = elim (cases-bool (outside f z)) [ inl t ↦ t | inr e ↦ absurd (n (within f z e)) ]
 
-none-cons : (t : Bool) (o : Option ℕ) (b : ℕ) → cond t (Some b) o ≡ None → (t ≡ false) × (o ≡ None)
+pub none-cons : (t : Bool) (o : Option ℕ) (b : ℕ) → cond t (Some b) o ≡ None → (t ≡ false) × (o ≡ None)
 none-cons false o b e = (refl, e)
 none-cons true o b e = let z : _≡_ {A = ℕ} 0 1 = cc in absurd (omega arith)
 

@@ -5,6 +5,8 @@
 //! From the layout come two searches of a message: for a reserved bit that is set, and for a field out of its range.
 ghost use mathlib.Core.Path.{_≡_};
 ghost use Prim.Native.Nat.{_+_, _^_, _<_, _≤_};
+ghost use lib.IntN.{pos};
+ghost use Rattle.std.specs.declared.option.Option.the-variants.{None};
 ghost use Rattle.std.specs.shelf.Lists.{All};
 ghost use Rattle.bits.specs.Bits.{bitsOf};
 ghost use Rattle.layout.specs.Layout.{fieldsOf, widths, widthOf, partsOf, typeOf, numberOf, Inverse};
@@ -157,17 +159,36 @@ fn count_of(signed: bool, width: usize, raw: u64) -> i64
     }
 }
 
-/// Whether a field that begins at bit `at` holds a count out of its range.
-fn is_outside(field: Field, at: usize, symbols: &[u8; 81]) -> bool
-    requires { ⌜ Sized field ⌝ ∗ ⌜ at + field .width ≤ 486 ⌝ }
-    ensures { λ r. ⌜ r ≡ outside field (held (placedAt at field) (bitsOf (now (symbols .entry)))) ⌝ }
+/// The count that the bits of a field hold where it begins at bit `at`.
+///
+/// It is 0 where the message has no such bits, and where they are none or more than 55.
+pub fn count_at(field: Field, at: usize, symbols: &[u8; 81]) -> i64
+    ensures same { λ r. ⌜ (Sized field → at + field .width ≤ 486 → r ≡ held (placedAt at field) (bitsOf (now (symbols .entry)))) ⌝ }
+    ensures none { λ r. ⌜ ((Sized field → at + field .width ≤ 486 → ⊥) → r ≡ pos 0) ⌝ }
 {
-    let count = count_of(
+    if field.width == 0 || field.width > 55 || at > 486 - field.width {
+        return 0;
+    }
+    count_of(
         field.signed,
         field.width,
         get_bits(symbols, at, field.width),
-    );
+    )
+}
+
+/// Whether a count is out of the field's range.
+pub fn is_outside(field: Field, count: i64) -> bool
+    ensures { λ r. ⌜ r ≡ outside field count ⌝ }
+{
     count < field.least || count > field.most
+}
+
+/// Whether a field that begins at bit `at` holds a count out of its range.
+fn holds_outside(field: Field, at: usize, symbols: &[u8; 81]) -> bool
+    requires { ⌜ Sized field ⌝ ∗ ⌜ at + field .width ≤ 486 ⌝ }
+    ensures { λ r. ⌜ r ≡ outside field (held (placedAt at field) (bitsOf (now (symbols .entry)))) ⌝ }
+{
+    is_outside(field, count_at(field, at, symbols))
 }
 
 /// The first bit of the first field out of its range, of fields that lie one after another from bit `from`.
@@ -177,12 +198,26 @@ fn first_outside(fields: &[Field], from: usize, symbols: &[u8; 81]) -> Option<us
 {
     let mut at = from;
     for field in fields {
-        if is_outside(*field, at, symbols) {
+        if holds_outside(*field, at, symbols) {
             return Some(at);
         }
         at += field.width;
     }
     None
+}
+
+/// The first bit of the first field out of its range, of a part that begins at bit `from`.
+///
+/// None where the message has no room for the part there.
+pub fn first_outside_in(part: Part, from: usize, symbols: &[u8; 81]) -> Option<usize>
+    ensures same { λ r. ⌜ (from + widthOf part ≤ 486 → r ≡ firstOutside (placed from (fieldsOf part)) (bitsOf (now (symbols .entry)))) ⌝ }
+    ensures none { λ r. ⌜ (486 < from + widthOf part → r ≡ None) ⌝ }
+{
+    if from <= 486 - width(part) {
+        first_outside(fields(part), from, symbols)
+    } else {
+        None
+    }
 }
 
 /// The same over the fields of a part that begins at bit `from`. The search looks at reserved parts alone, or at the others alone.
@@ -191,7 +226,7 @@ fn first_in_part(part: Part, reserved: bool, from: usize, symbols: &[u8; 81]) ->
     ensures { λ r. ⌜ r ≡ firstOutside (kept (looksAt reserved) from part) (bitsOf (now (symbols .entry))) ⌝ }
 {
     if is_reserved(part) == reserved {
-        first_outside(fields(part), from, symbols)
+        first_outside_in(part, from, symbols)
     } else {
         None
     }

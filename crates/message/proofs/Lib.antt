@@ -1,2 +1,2 @@
 mod Laws
-mod Promises
+pub mod Promises

@@ -44,7 +44,7 @@ checked-codeword : (w : List ℕ) → isOk (checked w) ≡ true → Codeword bcn
 checked-codeword w t =
     let p = parts (symbolFault 162 w) (firstNonzero w) (examined (take 81 w)) t in codeword-of w (p .symbols) (p .sums)
 
-checked-carries : (w : List ℕ) → isOk (checked w) ≡ true → Carries w
+pub checked-carries : (w : List ℕ) → isOk (checked w) ≡ true → Carries w
 checked-carries w t =
     let p = parts (symbolFault 162 w) (firstNonzero w) (examined (take 81 w)) t in
     let c = checked-codeword w t in

@@ -39,7 +39,7 @@ symbols-of n w e =
     let l = eqb-true (length w) n (p .0) in
     record { long = l; small = all-small w n l (first-all (isSymbol w) n (unmapped (first n (isSymbol w)) (p .1))) }
 
-of-symbols : (n : ℕ) (w : List ℕ) → SymbolList n w → symbolFault n w ≡ None
+pub of-symbols : (n : ℕ) (w : List ℕ) → SymbolList n w → symbolFault n w ≡ None
 of-symbols n w s =
     by-byte n w None (s .long)
     (first-none (isSymbol w) n (λ k l. let h : getD w k 0 ≤ 63 = omega (arith, s .small k) in le-leb (getD w k 0) 63 h))

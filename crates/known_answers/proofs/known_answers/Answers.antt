@@ -15,5 +15,5 @@ unfolding claims mul mulLow timesX scaled weighted places factors crcStep crcOf 
 returns c =
     record {
       count = refl;
-      each = (refl, (refl, ((refl, refl), ((refl, refl), (refl, (refl, (refl, (refl, (refl, (refl, (refl, (refl, (refl, (refl, tt))))))))))))));
+      each = (refl, (refl, ((refl, refl), ((refl, refl), (refl, (refl, (refl, (refl, (refl, (refl, (refl, (refl, (refl, (refl, (refl, (refl, (refl, (refl, (refl, (refl, tt))))))))))))))))))));
     }

@@ -1,0 +1,6 @@
+mod Accepted
+mod Packed
+pub mod Placing
+mod Reading
+mod Signs
+mod Written

@@ -1,0 +1,9 @@
+pub mod WeekCounts
+pub mod ClockCounts
+pub mod GroupDelayCounts
+pub mod IonosphereCounts
+pub mod BdtUtcCounts
+pub mod EarthOrientationCounts
+pub mod AccuracyCounts
+pub mod HealthCounts
+pub mod Eighths
