@@ -1,6 +1,6 @@
 mod Accepted
-mod Packed
+pub mod Packed
 pub mod Placing
 mod Reading
-mod Signs
+pub mod Signs
 mod Written

@@ -1,2 +1,2 @@
-mod Steps
+pub mod Steps
 mod Division

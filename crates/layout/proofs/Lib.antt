@@ -1,4 +1,4 @@
-mod Laws
+pub mod Laws
 pub mod Sizes
 mod Tiling
 mod Walk

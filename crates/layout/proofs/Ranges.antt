@@ -19,7 +19,7 @@ use Rattle.layout.specs.Ranges.{Within, InRange, outside, held, firstOutside, 
 pub within : (f : Field) (z : ℤ) → outside f z ≡ false → Within f z
 within f z e = record { low = grind (arith, ints); high = grind (arith, ints) }
 
-not-outside : (f : Field) (z : ℤ) → Within f z → outside f z ≡ false
+pub not-outside : (f : Field) (z : ℤ) → Within f z → outside f z ≡ false
 not-outside f z w = let a = w .low in let b = w .high in grind (arith, ints)
 
 not-within : (f : Field) (z : ℤ) → (Within f z → ⊥) → outside f z ≡ true

@@ -54,7 +54,7 @@ checked-carries w t =
       encodes = record { codeword = c; begins = refl };
     }
 
-carries-checked : (w : List ℕ) → Carries w → isOk (checked w) ≡ true
+pub carries-checked : (w : List ℕ) → Carries w → isOk (checked w) ≡ true
 carries-checked w c =
     let e = of-codeword w (c .encodes .codeword) in
     let l : Lawful (take 81 w) = subst Lawful (sym (c .encodes .begins)) (c .lawful) in

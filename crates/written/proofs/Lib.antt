@@ -1,0 +1,4 @@
+pub mod Fitting
+pub mod Holding
+pub mod Laws
+pub mod Runs
