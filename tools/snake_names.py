@@ -4,9 +4,9 @@
 usage: tools/snake_names.py          in the repository: renames in every crate (once: a second run would rename again)
        tools/snake_names.py --list   prints what would be renamed, and names that fall together
 
-A name that a file of specs/ or proofs/ declares in camel case or with dashes is written in snake case wherever it stands in specs/,
-proofs/ and the clauses of src/. Names of functions, types and modules, names that the check makes (as `returns` or `loop-i-init`) and
-the library's names stay. RENAMED gives a word another name where its own would fall together with a function, a parameter or a word
+A name that a file of specs/ or proofs/ declares, or gives by `as`, in camel case or with dashes is written in snake case wherever it
+stands in specs/, proofs/ and the clauses of src/. Names of functions, types and modules, names that the check makes (as `returns` or
+`loop-i-init`) and the library's names stay, these also where a file of this repository declares the same name. RENAMED gives a word another name where its own would fall together with a function, a parameter or a word
 of the library.
 """
 import os

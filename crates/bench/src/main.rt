@@ -1,4 +1,6 @@
 //! Measures the time of calls. It is proved like every program; what it prints is not compared.
+#![tactic(auto)]
+
 use blocks::Block;
 use decoders::Decoder;
 use erasure::ErasureDecoder;

@@ -2,6 +2,8 @@
 //!
 //! A message is 81 bytes whose low six bits are its symbols. Its 486 bits are the six bits of each symbol,
 //! most significant first.
+#![tactic(auto)]
+
 ghost use Rattle.std.specs.Prelude.{◌≡◌, ℕ, ◌+◌, ◌-◌, ◌/◌, ◌^◌, ◌<◌, ◌≤◌, length, slice_index, slice_set};
 ghost use Rattle.std.specs.Int.Digits.{number_from_digits};
 ghost use Rattle.bits.specs.Bits.{bits_of, part, pasted, spelled};

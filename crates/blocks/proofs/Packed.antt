@@ -6,7 +6,7 @@ use Rattle.std.proofs.ByRecursion.{All-take, All-drop, All-get_or}
 use Rattle.std.proofs.lemmas.List.{at_drop_more, at_drop_all, take_at, drop_at, take_more, length-take-le, drop-drop}
 use Rattle.std.proofs.lemmas.List.Sums.{sum_by-cons}
 use Rattle.std.specs.Int.Digits.{number_from_digits, AllBelowBase}
-use Rattle.std.specs.List.{AllByRecursion as All}
+use Rattle.std.specs.List.{AllByRecursion}
 use Rattle.bits.specs.Bits.{spelled, pasted, part}
 use Rattle.bits.proofs.Pasted.{pasted_more, take_add}
 use Rattle.bits.proofs.Spelled.{length_spelled, number_spelled, spelled_number}
@@ -116,7 +116,7 @@ pack_step fs zs bs now first n i h l far e so =
 
 -- ---- the counts come back
 
-pub held_pack : (fs : List Field) (zs : List ℤ) (b : ℕ) (front rest : List ℕ) → length front ≡ b → length zs ≡ length fs → All Sound fs
+pub held_pack : (fs : List Field) (zs : List ℤ) (b : ℕ) (front rest : List ℕ) → length front ≡ b → length zs ≡ length fs → AllByRecursion Sound fs
     → first_unfit (placed b fs) zs ≡ None → map (λ q. held q (front ++ (pack fs zs ++ rest))) (placed b fs) ≡ zs
 unfolding pack placed first_unfit
 held_pack [] [] b front rest n l s u = refl

@@ -4,7 +4,7 @@ use native.Mathlib.Nat.{pow-succ'}
 use lib.Signed.{le_z}
 use Rattle.std.proofs.lemmas.Int.{ints}
 use Rattle.std.proofs.lemmas.Bool.{and_parts, leb-true, lt-ltb, le-ltb, cond-true, cond-false, cond_both}
-use Rattle.std.specs.List.{AllByRecursion as All}
+use Rattle.std.specs.List.{AllByRecursion}
 use Rattle.layout.specs.Laws.{lowest, highest}
 use Rattle.layout.specs.Layout.{fields_of}
 use Rattle.layout.specs.Ranges.{Within, count_of}
@@ -90,7 +90,7 @@ sound_one f e =
     let r = and_parts least most h.1 in
     record { some = leb-true 1 f.width h.0; low = le_z_true _ _ r.0; high = le_z_true _ _ r.1 }
 
-sound_all : (fs : List Field) → are_sound fs ≡ true → All Sound fs
+sound_all : (fs : List Field) → are_sound fs ≡ true → AllByRecursion Sound fs
 unfolding are_sound
 sound_all [] e = tt
 sound_all (f ∷ fs) e = let h = and_parts (is_sound f) (are_sound fs) e in (sound_one f h.0, sound_all fs h.1)
@@ -111,5 +111,5 @@ all_sound Accuracy = refl
 all_sound Health = refl
 all_sound Opaque = refl
 
-pub sound : (p : Part) → All Sound (fields_of p)
+pub sound : (p : Part) → AllByRecursion Sound (fields_of p)
 sound p = sound_all (fields_of p) (all_sound p)

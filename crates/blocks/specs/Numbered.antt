@@ -1,8 +1,9 @@
 -- The number of the block that a part of the layout is.
-use Rattle.std.specs.Prelude.{ℕ}
+use Rattle.std.specs.Prelude.{◌≡◌, ℕ}
 use Rattle.layout.specs.declared.Part.{Part}
 use Rattle.layout.specs.declared.Part.TheVariants.{Reserved, Ephemeris1, Ephemeris2, Integrity, Week, Clock, GroupDelay}
 use Rattle.layout.specs.declared.Part.TheVariants.{Ionosphere, BdtUtc, EarthOrientation, Accuracy, Health, Opaque}
+use Rattle.blocks.specs.declared.place.Place.{Place}
 
 -- the number of the block that a part is; reserved bits and bits that are not taken apart are no block
 abbrev pub block_of : Part → ℕ
@@ -19,3 +20,7 @@ block_of EarthOrientation = 9
 block_of Accuracy = 10
 block_of Health = 11
 block_of Opaque = 0
+
+-- the block at p has the number of its part
+abbrev pub Numbered : Place → Type 0
+Numbered p = block_of p.part ≡ p.number

@@ -2,6 +2,8 @@
 //!
 //! A kind of block is a part of the layout with a record type. Reading and writing are one generic text over the layout's
 //! fields; a kind adds its record, and says which count stands where.
+#![tactic(auto)]
+
 ghost use Rattle.std.specs.Prelude.{◌≡◌, ℕ, ◌-◌, ◌^◌, ◌<◌, ◌≤◌, true, false, List, length, take, ℤ, pos, negsuc, ◌≤ℤ◌, is_ok, IfOk, None, Ok, slice_index, slice_index_or, slice_set};
 ghost use Rattle.bits.specs.Bits.{bits_of};
 ghost use Rattle.message.specs.Checked.{checked};
@@ -69,7 +71,7 @@ pub trait Block {
 
 /// The counts of the block's fields in a message.
 fn get_counts<K: Block>(symbols: &[u8; 81]) -> K::Record
-    ensures { counts result ≡ held_in site symbols.now }
+    ensures { K.counts result ≡ held_in K.site symbols.now }
 {
     let place = K::place();
     let mut found = K::zero();
@@ -90,8 +92,8 @@ fn is_of(message: &Message, kind: MessageType) -> bool
 }
 
 fn read_in_turn<K: Block>(bytes: &[u8]) -> Result<K::Record, BlockFault>
-    ensures answer { result ≡ read_as site made bytes.now }
-    ensures held { IfOk result (λ got. (counts got ≡ held_in site bytes.now) × (length bytes.now ≡ 81)) }
+    ensures answer { result ≡ read_as K.site K.made bytes.now }
+    ensures held { IfOk result (λ got. (K.counts got ≡ held_in K.site bytes.now) × (length bytes.now ≡ 81)) }
 {
     let message = Message::new(bytes)?;
     let place = K::place();
@@ -108,9 +110,9 @@ fn read_in_turn<K: Block>(bytes: &[u8]) -> Result<K::Record, BlockFault>
 ///
 /// Writing what was read gives the same bits. In a message that `check` accepts every block of its type is read.
 pub fn read<K: Block>(bytes: &[u8]) -> Result<K::Record, BlockFault>
-    ensures answer { result ≡ read_as site made bytes.now }
-    ensures writes { IfOk result (λ got. written_over site (counts got) (bits_of bytes.now) ≡ bits_of bytes.now) }
-    ensures accepted { (w : List ℕ) → is_ok (checked w) ≡ true → bytes.now ≡ take 81 w → is_of site.message_type bytes.now ≡ true → is_ok result ≡ true }
+    ensures answer { result ≡ read_as K.site K.made bytes.now }
+    ensures writes { IfOk result (λ got. written_over K.site (K.counts got) (bits_of bytes.now) ≡ bits_of bytes.now) }
+    ensures accepted { (w : List ℕ) → is_ok (checked w) ≡ true → bytes.now ≡ take 81 w → is_of K.site.message_type bytes.now ≡ true → is_ok result ≡ true }
 {
     read_in_turn::<K>(bytes)
 }
@@ -129,7 +131,7 @@ fn raw_of(width: usize, z: i64) -> u64
 
 /// The first bit of the first field that may not hold its count: what `write` would refuse a record for.
 pub fn first_unfit<K: Block>(of: &K::Record) -> Option<usize>
-    ensures { result ≡ first_unfit (placed_of site) (counts of.now) }
+    ensures { result ≡ first_unfit (placed_of K.site) (K.counts of.now) }
 {
     let place = K::place();
     let mut at = place.first_bit;
@@ -145,8 +147,8 @@ pub fn first_unfit<K: Block>(of: &K::Record) -> Option<usize>
 
 /// Writes the counts over the block's bits.
 fn put_counts<K: Block>(of: &K::Record, symbols: &mut [u8])
-    requires { (81 ≤ length symbols.old) × (first_unfit (placed_of site) (counts of.now) ≡ None) }
-    ensures bits { bits_of symbols.new ≡ written_over site (counts of.now) (bits_of symbols.old) }
+    requires { (81 ≤ length symbols.old) × (first_unfit (placed_of K.site) (K.counts of.now) ≡ None) }
+    ensures bits { bits_of symbols.new ≡ written_over K.site (K.counts of.now) (bits_of symbols.old) }
     ensures small { (k : ℕ) → slice_index symbols.old k < 64 → slice_index symbols.new k < 64 }
 {
     let place = K::place();
@@ -163,11 +165,11 @@ fn put_counts<K: Block>(of: &K::Record, symbols: &mut [u8])
 ///
 /// No other bit changes, and a byte below 64 stays below 64. Reading what was written gives the record.
 pub fn write<K: Block>(of: &K::Record, symbols: &mut [u8]) -> Result<(), BlockFault>
-    ensures answer { result ≡ write_answer site (counts of.now) (length symbols.old) }
-    ensures written { is_ok result ≡ true → bits_of symbols.new ≡ written_over site (counts of.now) (bits_of symbols.old) }
+    ensures answer { result ≡ write_answer K.site (K.counts of.now) (length symbols.old) }
+    ensures written { is_ok result ≡ true → bits_of symbols.new ≡ written_over K.site (K.counts of.now) (bits_of symbols.old) }
     ensures kept { is_ok result ≡ false → symbols.new ≡ symbols.old }
     ensures small { (k : ℕ) → slice_index symbols.old k < 64 → slice_index symbols.new k < 64 }
-    ensures back { is_ok result ≡ true → SymbolList 81 (take 81 symbols.old) → is_of site.message_type (take 81 symbols.old) ≡ true → read_as site made (take 81 symbols.new) ≡ Ok of.now }
+    ensures back { is_ok result ≡ true → SymbolList 81 (take 81 symbols.old) → is_of K.site.message_type (take 81 symbols.old) ≡ true → read_as K.site K.made (take 81 symbols.new) ≡ Ok of.now }
 {
     if symbols.len() < 81 {
         return Err(BlockFault::Symbols(SymbolFault::Length));

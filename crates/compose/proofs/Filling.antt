@@ -1,8 +1,8 @@
 -- A draft while its blocks are put, one after another.
 use Rattle.std.proofs.Common.{◌≡◌, ℕ, Bool, true, false, cond, not, ◌&&◌, eqb, ◌≢◌, List, [], ◌∷◌, get_or, take, set, replicate, ℤ, Some, None, Ok, Err, Option, Result, sym, refl, ap, ◌∙◌, subst, arith}
 use mathlib.Core.Path.{subst⁻¹}
-use Rattle.std.proofs.lemmas.Bool.{and_parts, both_ways, eq-eqb, not_true}
-use Rattle.std.specs.List.{AllByRecursion as All}
+use Rattle.std.proofs.lemmas.Bool.{and_parts, both_ways, eq-eqb, not-true}
+use Rattle.std.specs.List.{AllByRecursion}
 use Rattle.blocks.specs.Held.{held_in, placed_of}
 use Rattle.blocks.specs.Read.{read_as}
 use Rattle.blocks.specs.Stands.{Stands}
@@ -11,7 +11,7 @@ use Rattle.blocks.specs.declared.place.Place.{Place}
 use Rattle.blocks.proofs.Accepted.{lawful_read}
 use Rattle.layout.specs.Layout.{number_of, type_of}
 use Rattle.layout.specs.declared.MessageType.{MessageType}
-use Rattle.message.specs.Checked.{checked, in_turn as inTurnOf}
+use Rattle.message.specs.Checked.{checked, in_turn as in_turn_of}
 use Rattle.message.specs.Examined.{examined}
 use Rattle.message.specs.Lawful.{number_at}
 use Rattle.parity.specs.Code.{Encodes}
@@ -37,13 +37,13 @@ none_unfit (Some b) e = let z : ◌≡◌ {A = ℕ} 0 1 = cc in absurd (omega ar
 abbrev Fits : Counted → Type 0
 Fits x = first_unfit (placed_of x.0) x.1 ≡ None
 
-asked : (xs : List Counted) → ask_all xs ≡ Ok tt → All Fits xs
+asked : (xs : List Counted) → ask_all xs ≡ Ok tt → AllByRecursion Fits xs
 asked [] e = tt
 asked (x ∷ xs) e =
     let p = both (by_field (first_unfit (placed_of x.0) x.1)) (ask_all xs) e in
     (none_unfit (first_unfit (placed_of x.0) x.1) p.0, asked xs p.1)
 
-pub all_fit : (n s : ℕ) (r : Records) → write_answer n s r ≡ Ok tt → All (λ x. first_unfit (placed_of x.0) x.1 ≡ None) (all_counts_of r)
+pub all_fit : (n s : ℕ) (r : Records) → write_answer n s r ≡ Ok tt → AllByRecursion (λ x. first_unfit (placed_of x.0) x.1 ≡ None) (all_counts_of r)
 all_fit n s r e = asked (all_counts_of r) (both (start_answer n (number_of (kind_of r)) s) (ask_all (all_counts_of r)) e).1
 
 -- the blocks that are marked, newest first
@@ -68,16 +68,16 @@ pub record Partly (t : MessageType) (s : ℕ) (xs : List Counted) (kind : Messag
   pub typed : kind ≡ t
   pub marks : done ≡ marked xs
   pub second : number_at m 6 20 ≡ s
-  pub held : All (Held t m) xs
+  pub held : AllByRecursion (Held t m) xs
 
 still : (p : Place) (zs : List ℤ) (m v : List ℕ) → PutInto p zs m v → (xs : List Counted) → unlike p.number xs ≡ true
-    → All (Held p.message_type m) xs → All (Held p.message_type v) xs
+    → AllByRecursion (Held p.message_type m) xs → AllByRecursion (Held p.message_type v) xs
 still p zs m v i [] u a = tt
 still p zs m v i (x ∷ xs) u a =
     let w = and_parts (not (eqb x.0.number p.number)) (unlike p.number xs) u in
     let h = a.0 in
     let differs : x.0.number ≢ p.number =
-    λ e. both_ways (eqb x.0.number p.number) (not_true (eqb x.0.number p.number) w.0) (eq-eqb x.0.number p.number e) in (
+    λ e. both_ways (eqb x.0.number p.number) (not-true (eqb x.0.number p.number) w.0) (eq-eqb x.0.number p.number e) in (
       record { size = h.size; stands = h.stands; typed = h.typed; counts = i.others x.0 h.size h.stands h.typed differs ∙ h.counts },
       still p zs m v i xs w.1 a.1,
     )
@@ -123,7 +123,7 @@ none_left t s xs k done m h e = ap (λ (k : MessageType). seal_answer k done) h.
 
 -- the word w of the message v that the draft m is sealed to
 pub word_of : (r : Records) (s : ℕ) (t : MessageType) (done : List Bool) (m v w : List ℕ) → Filled r s t done m → SealedAs t m v → Encodes bcnav3 v w
-    → ((u : List ℕ) → Encodes bcnav3 v u → u ≡ w) → checked w ≡ inTurnOf None None (examined v)
+    → ((u : List ℕ) → Encodes bcnav3 v u → u ≡ w) → checked w ≡ in_turn_of None None (examined v)
     → examined v ≡ Ok (record { message_type = t; second = number_at m 6 20 }) → Word r s w
 word_of r s t done m v w f e encodes only is header =
     let begins : take 81 w ≡ v = encodes.begins in
@@ -134,7 +134,7 @@ word_of r s t done m v w f e encodes only is header =
       encodes = subst⁻¹ (λ (l : List ℕ). Encodes bcnav3 l w) begins encodes;
       only = λ u x. only u (subst (λ (l : List ℕ). Encodes bcnav3 l u) begins x);
       accepted =
-          is ∙ ap (inTurnOf None None) header
+          is ∙ ap (in_turn_of None None) header
           ∙ ap (λ (k : MessageType). Ok (record { message_type = k; second = number_at m 6 20 })) f.typed
           ∙ ap (λ (n : ℕ). Ok (record { message_type = kind_of r; second = n })) f.second;
     }

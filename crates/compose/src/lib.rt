@@ -2,6 +2,8 @@
 //!
 //! `compose` starts a draft, puts every block of the type, seals, encodes and writes the frame. It asks for every refusal before it
 //! changes anything.
+#![tactic(auto)]
+
 ghost use Rattle.std.specs.Prelude.{◌≡◌, ℕ, length, take, Ok, MatchResult};
 ghost use Rattle.blocks.specs.Held.{placed_of};
 ghost use Rattle.blocks.specs.Write.{first_unfit};

@@ -1,6 +1,8 @@
 //! The CRC-24Q of a message: the remainder of its first 462 bits, times x^24, by the generator 1864CFBh.
 //!
 //! The register has 24 bits and starts at 0. It takes in a symbol, six bits, at a time.
+#![tactic(auto)]
+
 ghost use Rattle.std.specs.Prelude.{◌≡◌, ℕ, ◌^◌, ◌<◌, [], ◌∷◌, take, fold};
 ghost use Rattle.bits.specs.Bits.{bits_of};
 ghost use Rattle.crc.specs.Crc.{crc_step, crc_of_message, six_zeros};

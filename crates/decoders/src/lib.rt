@@ -2,6 +2,8 @@
 //!
 //! A decoder is asked with the 972 levels of a word. What it means is a rule, which gives 162 bytes or nothing for each list of
 //! legal levels. The trait says what asking then answers and leaves in the buffer, and that is all that a caller knows.
+#![tactic(auto)]
+
 ghost use Rattle.std.specs.Prelude.{◌≡◌, ℕ, List, length, Some, None, MatchResult, OnOk, Float};
 ghost use Rattle.decoders.specs.Asks.{answered, ask_fault, left, Rule};
 ghost use Rattle.levels.specs.Faults.{level_fault};

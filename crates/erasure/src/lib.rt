@@ -1,4 +1,6 @@
 //! The erasure decoder: where the single-error decoder gives nothing, the symbols at the two weakest places are taken for unknown.
+#![tactic(auto)]
+
 ghost use Rattle.std.specs.Prelude.{◌≡◌, List, None, Float};
 ghost use Rattle.decoders.specs.Reach.{Reach};
 ghost use Rattle.erasure.specs.Rule.{erasure, Erasure};

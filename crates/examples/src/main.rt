@@ -1,6 +1,8 @@
 //! Compares words with what should be answered of them, and prints a line for each and a count.
 //!
 //! The words were made by another program than the encoder here, and the first is the published example of the service.
+#![tactic(auto)]
+
 use anyhow::anyhow;
 use known_answers::known_answers;
 use message::check;

@@ -1,4 +1,6 @@
 //! Writes and reads records at the edges of their ranges, of every kind of block, and prints a line for each kind.
+#![tactic(auto)]
+
 use anyhow::anyhow;
 use blocks::fault::BlockFault;
 use blocks::text::Described;

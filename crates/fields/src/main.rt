@@ -1,4 +1,6 @@
 //! Prints the fields of a message as text.
+#![tactic(auto)]
+
 use anyhow::anyhow;
 use blocks::fault::BlockFault;
 use blocks::text::{Described, FieldText};

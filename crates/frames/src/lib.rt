@@ -1,6 +1,8 @@
 //! The frame of a coded word: 1000 bits in 125 bytes, most significant first.
 //!
 //! A frame is the preamble EB90h, the satellite's number in six bits, six zeros, and the 972 bits of the word's 162 symbols.
+#![tactic(auto)]
+
 ghost use Rattle.std.specs.Prelude.{◌≡◌, ◌+◌, ◌*◌, ◌%◌, ◌<◌, ◌≤◌, true, length, MatchResult, OnOk};
 ghost use Rattle.std.specs.Int.Digits.{number_from_digits};
 ghost use Rattle.bits.specs.Bits.{bits_of, part};

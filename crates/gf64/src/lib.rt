@@ -2,6 +2,8 @@
 //!
 //! A symbol is a number 0 to 63: bit k is the coefficient of x^k. The sum of two symbols is their exclusive or, `^`.
 //! The product is that of polynomials modulo 1 + x + x^6, here by logarithms to the base x.
+#![tactic(auto)]
+
 ghost use Rattle.std.specs.Prelude.{◌≡◌, ◌%◌, ◌<◌};
 ghost use Rattle.gf64.specs.Field.{mul, inv};
 ghost use Rattle.gf64.specs.Laws.{FieldLaws};

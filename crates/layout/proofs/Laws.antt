@@ -5,7 +5,7 @@ use Rattle.layout.specs.declared.MessageType.{MessageType}
 use Rattle.layout.specs.declared.MessageType.TheVariants.{Type10, Type30, Type40}
 use Rattle.layout.specs.Layout.{fields_of, width_of, parts_of}
 use Rattle.layout.specs.Placed.{placed, spread, reserved_of, parameters_of}
-use Rattle.layout.specs.Laws.{Tiles, First-bits, Ruled, full, narrow, rules_of, zeros_of}
+use Rattle.layout.specs.Laws.{Tiles, FirstBits, Ruled, full, narrow, rules_of, zeros_of}
 use Rattle.layout.proofs.Sizes.{width_fields}
 use Rattle.layout.proofs.Tiling.{tiled}
 
@@ -23,7 +23,7 @@ tiles =
       fields = λ p n from. tiled (λ (f : Field). f.width) from (from + width_of p) (fields_of p) (ap (◌+◌ from) (width_fields p n));
     }
 
-pub first_bits : First-bits
+pub first_bits : FirstBits
 unfolding parts_of width_of fields_of
 first_bits = record { type10 = refl; type30 = refl; type40 = refl }
 

@@ -3,7 +3,7 @@ use Rattle.std.proofs.Common.{◌≡◌, ℕ, Bool, true, false, cond, ◌⊎◌
 use Rattle.std.proofs.lemmas.List.{append-nil, append_assoc}
 use Rattle.std.proofs.lemmas.Int.{ints}
 use Rattle.std.proofs.lemmas.Bool.{both_ways, cases_Bool, cond-true}
-use Rattle.std.specs.List.{AllByRecursion as All}
+use Rattle.std.specs.List.{AllByRecursion}
 use Rattle.layout.specs.declared.Field.{Field}
 use Rattle.layout.specs.Placed.{Placed}
 use Rattle.layout.specs.Ranges.{Within, InRange, outside, held, first_outside, Breaks, First}
@@ -21,7 +21,7 @@ pub none_cons : (t : Bool) (o : Option ℕ) (b : ℕ) → cond t (Some b) o ≡ 
 none_cons false o b e = (refl, e)
 none_cons true o b e = let z : ◌≡◌ {A = ℕ} 0 1 = cc in absurd (omega arith)
 
-pub none_all : (ps : List Placed) (bs : List ℕ) → first_outside ps bs ≡ None → All (InRange bs) ps
+pub none_all : (ps : List Placed) (bs : List ℕ) → first_outside ps bs ≡ None → AllByRecursion (InRange bs) ps
 unfolding first_outside
 none_all [] bs e = tt
 none_all (p ∷ ps) bs e =
@@ -29,14 +29,14 @@ none_all (p ∷ ps) bs e =
     (within p.field (held p bs) h.0, none_all ps bs h.1)
 
 -- fields in range in front change nothing
-pub past_sound : (ps qs : List Placed) (bs : List ℕ) → All (InRange bs) ps → first_outside (ps ++ qs) bs ≡ first_outside qs bs
+pub past_sound : (ps qs : List Placed) (bs : List ℕ) → AllByRecursion (InRange bs) ps → first_outside (ps ++ qs) bs ≡ first_outside qs bs
 unfolding first_outside
 past_sound [] qs bs h = refl
 past_sound (p ∷ ps) qs bs h =
     ap (λ (t : Bool). cond t (Some p.bit) (first_outside (ps ++ qs) bs)) (not_outside p.field (held p bs) h.0)
     ∙ past_sound ps qs bs h.1
 
-pub all_none : (ps : List Placed) (bs : List ℕ) → All (InRange bs) ps → first_outside ps bs ≡ None
+pub all_none : (ps : List Placed) (bs : List ℕ) → AllByRecursion (InRange bs) ps → first_outside ps bs ≡ None
 unfolding first_outside
 all_none ps bs h = ap (λ (l : List Placed). first_outside l bs) (sym (append-nil ps)) ∙ past_sound ps [] bs h
 

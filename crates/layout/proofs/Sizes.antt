@@ -2,7 +2,7 @@
 use Rattle.std.proofs.Common.{◌≡◌, ◌≤◌, Bool, true, ◌&&◌, leb, ◌≢◌, ◌⊎◌, List, [], ◌∷◌, refl, inl, inr}
 use Rattle.std.proofs.lemmas.Bool.{and_parts, leb-true, le-leb, and_from}
 use Rattle.std.proofs.ByRecursion.{Decides-by_and}
-use Rattle.std.specs.List.{AllByRecursion as All}
+use Rattle.std.specs.List.{AllByRecursion}
 use Rattle.layout.specs.declared.Field.{Field}
 use Rattle.layout.specs.declared.Part.{Part}
 use Rattle.layout.specs.declared.Part.TheVariants.{Reserved, Ephemeris1, Ephemeris2, Integrity, Week, Clock, GroupDelay}
@@ -19,7 +19,7 @@ are_sized : List Field → Bool
 are_sized [] = true
 are_sized (f ∷ fs) = is_sized f && are_sized fs
 
-sized_from : (fs : List Field) → are_sized fs ≡ true → All Sized fs
+sized_from : (fs : List Field) → are_sized fs ≡ true → AllByRecursion Sized fs
 unfolding are_sized is_sized
 sized_from fs =
     (Decides-by_and is_sized Sized are_sized
@@ -52,7 +52,7 @@ all_fit Accuracy = refl
 all_fit Health = refl
 all_fit Opaque = refl
 
-pub sized : (p : Part) → All Sized (fields_of p)
+pub sized : (p : Part) → AllByRecursion Sized (fields_of p)
 unfolding fitting
 sized p =
     sized_from (fields_of p)

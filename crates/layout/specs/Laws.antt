@@ -38,7 +38,7 @@ abbrev pub begins : ℕ → List Part → List ℕ
 begins b [] = []
 begins b (p ∷ ps) = b ∷ begins (b + width_of p) ps
 
-pub record First-bits : Type 0 where
+pub record FirstBits : Type 0 where
   pub type10 : begins 26 (parts_of Type10) ≡ 26 ∷ 30 ∷ 233 ∷ 455 ∷ []
   pub type30 : begins 26 (parts_of Type30) ≡ 26 ∷ 39 ∷ 43 ∷ 112 ∷ 124 ∷ 198 ∷ 295 ∷ 433 ∷ 460 ∷ []
   pub type40 : begins 26 (parts_of Type40) ≡ 26 ∷ []

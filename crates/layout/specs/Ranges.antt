@@ -1,7 +1,7 @@
 -- Which fields of a message hold a count that they may hold.
 use Rattle.std.specs.Prelude.{◌≡◌, ℕ, suc, ◌-◌, ◌^◌, ◌≤◌, Bool, true, false, cond, ◌||◌, List, [], ◌∷◌, ◌++◌, ℤ, pos, negsuc, ◌≤ℤ◌, Some, None, Option, int_lt, nat_lt}
 use Rattle.std.specs.Int.Digits.{number_from_digits}
-use Rattle.std.specs.List.{AllByRecursion as All}
+use Rattle.std.specs.List.{AllByRecursion}
 use Rattle.bits.specs.Bits.{part}
 use Rattle.layout.specs.declared.Field.{Field}
 use Rattle.layout.specs.Placed.{Placed}
@@ -44,13 +44,13 @@ pub record Breaks (ps : List Placed) (bs : List ℕ) (b : ℕ) : Type 0 where
   pub here : Placed
   pub after : List Placed
   pub splits : ps ≡ before ++ (here ∷ after)
-  pub sound : All (InRange bs) before
+  pub sound : AllByRecursion (InRange bs) before
   pub out : InRange bs here → ⊥
   pub place : here.bit ≡ b
 
 -- an answer names the first field out of range, and is None exactly where there is none
 pub record First (ps : List Placed) (bs : List ℕ) (answer : Option ℕ) : Type 0 where
-  pub none : answer ≡ None → All (InRange bs) ps
-  pub all : All (InRange bs) ps → answer ≡ None
+  pub none : answer ≡ None → AllByRecursion (InRange bs) ps
+  pub all : AllByRecursion (InRange bs) ps → answer ≡ None
   pub some : (b : ℕ) → answer ≡ Some b → Breaks ps bs b
   pub found : (b : ℕ) → Breaks ps bs b → answer ≡ Some b

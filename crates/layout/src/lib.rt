@@ -3,13 +3,15 @@
 //! Only widths, signs and ranges are written down; the first bit of a field follows from the widths before it.
 //! A reserved bit is a field of one bit with the range 0 to 0.
 //! From the layout come two searches of a message: for a reserved bit that is set, and for a field out of its range.
+#![tactic(auto)]
+
 ghost use Rattle.std.specs.Prelude.{◌≡◌, ◌+◌, ◌^◌, ◌<◌, ◌≤◌, pos, None};
-ghost use Rattle.std.specs.List.{AllByRecursion as All};
+ghost use Rattle.std.specs.List.{AllByRecursion};
 ghost use Rattle.bits.specs.Bits.{bits_of};
 ghost use Rattle.layout.specs.Layout.{fields_of, widths, width_of, parts_of, type_of, number_of, Inverse};
 ghost use Rattle.layout.specs.Placed.{at as placed_at, placed, kept, spread, is_reserved, looks_at, reserved_of, parameters_of};
 ghost use Rattle.layout.specs.Ranges.{count_of, held, Sized, outside, first_outside, First};
-ghost use Rattle.layout.specs.Laws.{Tiles, First-bits, Ruled};
+ghost use Rattle.layout.specs.Laws.{Tiles, FirstBits, Ruled};
 
 use bits::get_bits;
 
@@ -82,7 +84,7 @@ impl MessageType {
 pub fn parts(kind: MessageType) -> &'static [Part]
     ensures same { result.now ≡ parts_of kind }
     ensures tiles { Tiles }
-    ensures begins { First-bits }
+    ensures begins { FirstBits }
     ensures ruled { Ruled }
 {
     match kind {
@@ -191,7 +193,7 @@ fn holds_outside(field: Field, at: usize, symbols: &[u8; 81]) -> bool
 
 /// The first bit of the first field out of its range, of fields that lie one after another from bit `from`.
 fn first_outside(fields: &[Field], from: usize, symbols: &[u8; 81]) -> Option<usize>
-    requires { (All Sized fields.now) × (from + widths fields.now ≤ 486) }
+    requires { (AllByRecursion Sized fields.now) × (from + widths fields.now ≤ 486) }
     ensures { result ≡ first_outside (placed from fields.now) (bits_of symbols.now) }
 {
     let mut at = from;

@@ -1,5 +1,5 @@
 -- What the comparisons of a level say of its number.
-use Rattle.std.proofs.Common.{◌≡◌, ℕ, zero, suc, ◌+◌, ◌*◌, ◌<◌, ◌≤◌, Bool, true, false, cond, ◌&&◌, ◌||◌, eqb, ltb, leb, ℤ, pos, Decides, sym, refl, ap, ◌∙◌, inl, inr, true≢false, mul-pos, mul_one, arith, lit<}
+use Rattle.std.proofs.Common.{◌≡◌, ℕ, zero, suc, ◌+◌, ◌*◌, ◌<◌, ◌≤◌, Bool, true, false, cond, ◌&&◌, ◌||◌, eqb, ltb, leb, ℤ, pos, Decides, sym, refl, ap, ◌∙◌, inl, inr, true≢false, mul-pos, mul-one, arith, lit<}
 use lib.Ieee.{Float, nan, inf, fin, up, down, le, lt}
 use lib.Ieee.Fits.{down_pos, up_pos}
 use Rattle.std.proofs.lemmas.Bool.{cases_order, lt-ltb, le-ltb, eq-eqb, ne_eqb, le-leb, lt-leb, leb-true}
@@ -35,14 +35,14 @@ legal_fin : (s : Bool) (m : ℕ) (e : ℤ) → legal (fin s m e) ≡ leb (m * up
 unfolding le legal
 legal_fin false m e =
     let p : 0 < 4 * down e + m * up e = omega (arith, down_pos e) in
-    rw (mul_one (m * up e), lt-ltb 0 (4 * down e + m * up e) p) (at_most (m * up e) (4 * down e))
+    rw (mul-one (m * up e), lt-ltb 0 (4 * down e + m * up e) p) (at_most (m * up e) (4 * down e))
 legal_fin true m e =
     let p : 0 < m * up e + 4 * down e = omega (arith, down_pos e) in
-    rw (mul_one (m * up e), lt-ltb 0 (m * up e + 4 * down e) p, and_true (ltb (m * up e) (4 * down e) || (eqb (4 * down e) (m * up e) && true)), same_eqb (4 * down e) (m * up e)) (at_most (m * up e) (4 * down e))
+    rw (mul-one (m * up e), lt-ltb 0 (m * up e + 4 * down e) p, and_true (ltb (m * up e) (4 * down e) || (eqb (4 * down e) (m * up e) && true)), same_eqb (4 * down e) (m * up e)) (at_most (m * up e) (4 * down e))
 
 size_fin : (m : ℕ) (e : ℤ) → le (fin false m e) (fin false 1 (pos 2)) ≡ leb (m * up e) (4 * down e)
 unfolding le
-size_fin m e = rw (mul_one (m * up e)) (at_most (m * up e) (4 * down e))
+size_fin m e = rw (mul-one (m * up e)) (at_most (m * up e) (4 * down e))
 
 -- by its size
 pub legal_size : (x : Float) → le (float_with_sign false x) (fin false 1 (pos 2)) ≡ legal x

@@ -2,6 +2,8 @@
 //!
 //! A level is legal when it is a number from -4 to 4. Below 0 it reads as bit 1, otherwise as bit 0. What a level means is said
 //! by `is_legal` and `bit_of` alone; everything else goes through them.
+#![tactic(auto)]
+
 ghost use Rattle.std.specs.Prelude.{◌≡◌, ◌+◌, ◌/◌, ◌<◌, ◌≤◌, map, length, IfOk, Some, None, Decides, MatchOption, MatchResult};
 ghost use Rattle.bits.specs.Bits.{bits_of};
 ghost use Rattle.levels.specs.Faults.{first_illegal, level_fault, FirstIllegal, LegalBelow};

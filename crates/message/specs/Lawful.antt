@@ -1,7 +1,7 @@
 -- A lawful message.
 use Rattle.std.specs.Prelude.{◌≡◌, ℕ, ◌≤◌, List}
 use Rattle.std.specs.Int.Digits.{number_from_digits}
-use Rattle.std.specs.List.{AllByRecursion as All}
+use Rattle.std.specs.List.{AllByRecursion}
 use Rattle.bits.specs.Bits.{bits_of, part}
 use Rattle.crc.specs.Crc.{crc_of_message}
 use Rattle.layout.specs.Layout.{number_of}
@@ -24,5 +24,5 @@ pub record Lawful (m : List ℕ) : Type 0 where
   -- the next 20 are a second of the week
   pub second : number_at m 6 20 ≤ 604799
   -- the reserved bits are 0, and each field holds a count of its range
-  pub reserved : All (InRange (bits_of m)) (reserved_of type)
-  pub fields : All (InRange (bits_of m)) (parameters_of type)
+  pub reserved : AllByRecursion (InRange (bits_of m)) (reserved_of type)
+  pub fields : AllByRecursion (InRange (bits_of m)) (parameters_of type)

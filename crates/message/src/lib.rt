@@ -2,6 +2,8 @@
 //!
 //! `check` takes bytes as they come and answers the type and the second of the message that they carry, or the first
 //! refusal in its order: length, byte above 63, row sum, CRC, type, second, reserved bit, field out of range.
+#![tactic(auto)]
+
 ghost use Rattle.std.specs.Prelude.{◌≡◌, ℕ, true, false, List, take, is_ok, Decides};
 ghost use Rattle.parity.specs.Code.{Encodes};
 ghost use Rattle.parity.specs.Table.{bcnav3};

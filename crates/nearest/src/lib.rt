@@ -1,4 +1,6 @@
 //! The nearest-of-two decoder: of what two decoders propose, the word that is nearer to the levels.
+#![tactic(auto)]
+
 ghost use Rattle.std.specs.Prelude.{◌≡◌, Some, None, MatchResult};
 ghost use Rattle.decoders.specs.Asks.{ask_fault};
 ghost use Rattle.decoders.specs.Reach.{Reach};

@@ -2,7 +2,7 @@
 use Rattle.std.proofs.Common.{◌≡◌, ℕ, zero, suc, ◌<◌, ◌≤◌, true, false, cond, eqb, ◌≢◌, List, [], ◌∷◌, map, length, get_or, set, sym, refl, ap, ◌∙◌, arith, lit≤}
 use Rattle.std.proofs.lemmas.List.{length-map}
 use Rattle.std.proofs.lemmas.Bool.{eq-eqb, eqb-true, cond-true, cond-false, cond_both}
-use Rattle.std.specs.List.{AllByRecursion as All}
+use Rattle.std.specs.List.{AllByRecursion}
 use Rattle.parity.specs.Code.{differences}
 use Rattle.parity.proofs.Cases.{by}
 
@@ -23,9 +23,9 @@ differences_set (y ∷ u) (suc p) x = rw (eq-eqb y y refl) (differences_set u p 
 record Outside (n : ℕ) (u v : List ℕ) : Type 0 where
   places : List ℕ
   count : length places ≡ n
-  rest : (k : ℕ) → All (λ p. k ≢ p) places → get_or u k 0 ≡ get_or v k 0
+  rest : (k : ℕ) → AllByRecursion (λ p. k ≢ p) places → get_or u k 0 ≡ get_or v k 0
 
-lower : (k : ℕ) (ps : List ℕ) → All (λ p. suc k ≢ p) (map suc ps) → All (λ p. k ≢ p) ps
+lower : (k : ℕ) (ps : List ℕ) → AllByRecursion (λ p. suc k ≢ p) (map suc ps) → AllByRecursion (λ p. k ≢ p) ps
 lower k [] h = tt
 lower k (p ∷ ps) h = (λ e. h.0 (ap suc e), lower k ps h.1)
 
@@ -42,7 +42,7 @@ outside (x ∷ u) (y ∷ v) h =
     (λ t. record {
       places = map suc o.places;
       count = m ∙ sym (cond-true (eqb x y) n (suc n) t);
-      rest = λ k. elim k as (λ j. All (λ p. j ≢ p) (map suc o.places) → get_or (x ∷ u) j 0 ≡ get_or (y ∷ v) j 0) [
+      rest = λ k. elim k as (λ j. AllByRecursion (λ p. j ≢ p) (map suc o.places) → get_or (x ∷ u) j 0 ≡ get_or (y ∷ v) j 0) [
         | zero ↦ λ a. eqb-true x y t
         | suc j ↦ λ a. o.rest j (lower j o.places a)
       ];
@@ -50,7 +50,7 @@ outside (x ∷ u) (y ∷ v) h =
     (λ t. record {
       places = 0 ∷ map suc o.places;
       count = ap suc m ∙ sym (cond-false (eqb x y) n (suc n) t);
-      rest = λ k. elim k as (λ j. All (λ p. j ≢ p) (0 ∷ map suc o.places) → get_or (x ∷ u) j 0 ≡ get_or (y ∷ v) j 0) [
+      rest = λ k. elim k as (λ j. AllByRecursion (λ p. j ≢ p) (0 ∷ map suc o.places) → get_or (x ∷ u) j 0 ≡ get_or (y ∷ v) j 0) [
         | zero ↦ λ a. absurd (a.0 refl)
         | suc j ↦ λ a. o.rest j (lower j o.places a.1)
       ];
@@ -62,7 +62,7 @@ pub record Two (u v : List ℕ) : Type 0 where
   pub right : ℕ
   pub rest : (k : ℕ) → k ≢ left → k ≢ right → get_or u k 0 ≡ get_or v k 0
 
-from_places : (u v : List ℕ) (ps : List ℕ) → length ps ≤ 2 → ((k : ℕ) → All (λ p. k ≢ p) ps → get_or u k 0 ≡ get_or v k 0) → Two u v
+from_places : (u v : List ℕ) (ps : List ℕ) → length ps ≤ 2 → ((k : ℕ) → AllByRecursion (λ p. k ≢ p) ps → get_or u k 0 ≡ get_or v k 0) → Two u v
 from_places u v [] h f = record { left = 0; right = 0; rest = λ k a b. f k tt }
 from_places u v (p ∷ []) h f = record { left = p; right = p; rest = λ k a b. f k (a, tt) }
 from_places u v (p ∷ q ∷ []) h f = record { left = p; right = q; rest = λ k a b. f k (a, (b, tt)) }
@@ -76,7 +76,7 @@ pub record One (u v : List ℕ) : Type 0 where
   pub place : ℕ
   pub rest : (k : ℕ) → k ≢ place → get_or u k 0 ≡ get_or v k 0
 
-from_place_lem : (u v : List ℕ) (ps : List ℕ) → length ps ≤ 1 → ((k : ℕ) → All (λ p. k ≢ p) ps → get_or u k 0 ≡ get_or v k 0) → One u v
+from_place_lem : (u v : List ℕ) (ps : List ℕ) → length ps ≤ 1 → ((k : ℕ) → AllByRecursion (λ p. k ≢ p) ps → get_or u k 0 ≡ get_or v k 0) → One u v
 from_place_lem u v [] h f = record { place = 0; rest = λ k a. f k tt }
 from_place_lem u v (p ∷ []) h f = record { place = p; rest = λ k a. f k (a, tt) }
 from_place_lem u v (p ∷ q ∷ ps) h f = absurd (omega arith)

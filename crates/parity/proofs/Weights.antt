@@ -2,7 +2,7 @@
 use Rattle.std.proofs.Common.{◌≡◌, ℕ, zero, suc, ◌<◌, true, false, not, ◌&&◌, eqb, ltb, ◌≢◌, List, [], ◌∷◌, length, get_or, sym, refl, ap, ◌∙◌, ap₂, arith, lit<}
 use mathlib.Core.Path.{subst⁻¹}
 use lib.Bits.{bit_xor, xor_zero_l, xor_zero_r}
-use Rattle.std.proofs.lemmas.Bool.{and_parts, and_left, and_right, eq-eqb, ne_eqb, eqb-true, eqb-false, ltb-true, not_true, cond-true, cond-false}
+use Rattle.std.proofs.lemmas.Bool.{and_parts, and_left, and_right, eq-eqb, ne_eqb, eqb-true, eqb-false, ltb-true, not-true, cond-true, cond-false}
 use Rattle.gf64.specs.Field.{mul}
 use Rattle.gf64.proofs.Laws.{mul_lt, mul_comm, mul_xor_r, mul_zero, xor_small, xor_medial}
 use Rattle.parity.specs.Code.{weighted, factor_in}
@@ -61,7 +61,7 @@ factor_absent x [] fs t = refl
 factor_absent x (p ∷ ps) [] t = refl
 factor_absent x (p ∷ ps) (f ∷ fs) t =
     let q = and_parts (not (eqb p x)) (absent x ps) t in
-    cond-false (eqb p x) f (factor_in x ps fs) (not_true (eqb p x) q.0) ∙ factor_absent x ps fs q.1
+    cond-false (eqb p x) f (factor_in x ps fs) (not-true (eqb p x) q.0) ∙ factor_absent x ps fs q.1
 
 pub factor_present : (x : ℕ) (ps fs : List ℕ) → length ps ≡ length fs → units fs ≡ true → factor_in x ps fs ≡ 0 → absent x ps ≡ true
 unfolding factor_in absent

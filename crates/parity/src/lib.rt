@@ -2,6 +2,8 @@
 //!
 //! A word is a code word when the 81 sums that the parity-check table asks for are all 0. Each message begins exactly one
 //! code word, and a code word that is altered at one place or at two is none.
+#![tactic(auto)]
+
 ghost use Rattle.std.specs.Prelude.{◌≡◌, ℕ, ◌%◌, ◌<◌, ◌⊎◌, List, length, take, Some, None, MatchResult, slice_index};
 ghost use Rattle.parity.specs.Bytes.{symbol_fault, first_nonzero};
 ghost use Rattle.parity.specs.Code.{Code, Codeword, Encodes, altered, factor_of, row_sum};

@@ -1,7 +1,7 @@
 //! The sums of the rows of the parity-check table.
 ghost use Rattle.std.specs.Prelude.{◌≡◌, ◌<◌};
 ghost use Rattle.parity.specs.Code.{SymbolList, sym_at, row_sum};
-ghost use Rattle.parity.specs.Ring.{term as termAt};
+ghost use Rattle.parity.specs.Ring.{term as term_at};
 ghost use Rattle.parity.specs.Table.{bcnav3};
 
 use crate::table::{factor, place};
@@ -12,7 +12,7 @@ pub(crate) fn term(word: &[u8; 162], r: usize, j: usize) -> u8
     requires symbol_list { SymbolList 162 word.now }
     requires r_bound { r < 81 }
     requires j_bound { j < 4 }
-    ensures { result ≡ termAt r (sym_at word.now) j }
+    ensures { result ≡ term_at r (sym_at word.now) j }
 {
     product(factor(r, j), word[place(r, j)])
 }

@@ -2,6 +2,8 @@
 //!
 //! Each layer has an enum of its own for its faults, and one definition gives the refusal of each case. The numbers and what
 //! their places mean are listed in docs/REFUSALS.md.
+#![tactic(auto)]
+
 ghost use Rattle.std.specs.Prelude.{◌≡◌, Some};
 ghost use Rattle.refusal.specs.Layers.{layer_number};
 ghost use Rattle.refusal.specs.Lines.{refused_line};

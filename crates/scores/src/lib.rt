@@ -2,7 +2,10 @@
 //!
 //! The score of a word has the sum of the squared distances between each level and the sign of its bit, and the largest of
 //! them. Each difference, product and sum is rounded once.
+#![tactic(auto)]
+
 ghost use Rattle.std.specs.Prelude.{◌≡◌, ℕ, ◌<◌, false, IfOk, Some, None, Decides, MatchResult, slice_index};
+ghost use Rattle.std.specs.Float.{float_max};
 ghost use Rattle.std.specs.Float.Ieee.{lt};
 ghost use Rattle.std.specs.Float.Ieee.Exact.{HasValue};
 ghost use Rattle.bits.specs.Bits.{bits_of};
@@ -44,6 +47,13 @@ fn distance(level: f32, bit: u8) -> f32
     level - sign
 }
 
+/// The larger of two numbers, and the other one where one is no number.
+fn larger(a: f32, b: f32) -> f32
+    ensures { result ≡ float_max a b }
+{
+    if b <= a || b.is_nan() { a } else { b }
+}
+
 /// The score of a word against levels, as far as there are both levels and bits of the word.
 pub fn score_word(levels: &[f32], word: &Word) -> Score
     ensures { result ≡ score_of levels.now word.now.bytes }
@@ -54,7 +64,7 @@ pub fn score_word(levels: &[f32], word: &Word) -> Score
         let d = distance(levels[i], word_bit(word, i));
         let square = d * d;
         sum += square;
-        largest = largest.max(square);
+        largest = larger(largest, square);
     }
     Score { sum, largest }
 }

@@ -1,4 +1,6 @@
 //! The single-error decoder: the only code word that differs from the hard decision in at most one symbol.
+#![tactic(auto)]
+
 ghost use Rattle.std.specs.Prelude.{◌≡◌, ◌≤◌, List, length, IfOk, None, Float};
 ghost use Rattle.correction.specs.Search.{Only};
 ghost use Rattle.decoders.specs.Asks.{answered, ask_fault, left};

@@ -1,4 +1,6 @@
 //! Writes the frame of a message that is given as text.
+#![tactic(auto)]
+
 use anyhow::anyhow;
 use blocks::Block;
 use blocks::text::Described;

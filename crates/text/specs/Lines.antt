@@ -1,6 +1,6 @@
 -- What is taken from the lines of a text, and what is left. Assumes nothing.
 use Rattle.std.specs.Prelude.{◌≡◌, Bool, true, false, cond, List, [], ◌∷◌, ℤ, Ok, Err, string_bytes, Result}
-use Rattle.std.specs.List.{AllByRecursion as All}
+use Rattle.std.specs.List.{AllByRecursion}
 use Rattle.std.specs.Str.{bytes_eq}
 use Rattle.text.specs.Names.{written}
 use Rattle.text.specs.declared.Entry.{Entry}
@@ -17,7 +17,7 @@ as_used e = record { line = e.line; name = e.name; count = e.count; used = true 
 
 -- nobody has used a line
 abbrev pub Unused : List Entry → Type 0
-Unused es = All (λ (e : Entry). e.used ≡ false) es
+Unused es = AllByRecursion (λ (e : Entry). e.used ≡ false) es
 
 -- the number of the first line with a name
 unfoldable pub counted : Name → List Entry → Result ℤ TextFault

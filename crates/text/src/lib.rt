@@ -3,6 +3,8 @@
 //! A line is a name, spaces and a whole number. What follows a `#` is a comment, and a line with nothing before it says nothing.
 //! `parse` reads the lines; the one who knows which names there should be takes the numbers by name, in any order, and
 //! `finish` then refuses what nobody took.
+#![tactic(auto)]
+
 ghost use Rattle.std.specs.Prelude.{◌≡◌, IfOk};
 ghost use Rattle.text.specs.Lines.{Unused, counted, finished, marked};
 ghost use Rattle.text.specs.declared.fault.Name.TheVariants.{Plain, Field};

@@ -1,6 +1,8 @@
 //! The blocks of messages of type 30, a record of counts for each.
 //!
 //! A count times the scale of its field is the value.
+#![tactic(auto)]
+
 pub mod accuracy;
 pub mod bdt_utc;
 pub mod clock;

@@ -3,7 +3,7 @@ use Rattle.std.proofs.Common.{◌≡◌, ℕ, zero, suc, ◌+◌, ◌-◌, ◌*�
 use mathlib.Core.Path.{subst⁻¹}
 use lib.Ieee.{Float, up, down, is_nan, le, lt}
 use lib.Ieee.Fits.{down_pos}
-use Rattle.std.proofs.lemmas.Bool.{ltb-true, ltb-false, lt-ltb, le-ltb, eq-eqb, ne_eqb, cases_Bool, cases_eq, cases_order, both_ways, cond_both, not_true, not-false}
+use Rattle.std.proofs.lemmas.Bool.{ltb-true, ltb-false, lt-ltb, le-ltb, eq-eqb, ne_eqb, cases_Bool, cases_eq, cases_order, both_ways, cond_both, not-true, not-false}
 use Rattle.std.specs.Float.{float_min}
 use Rattle.weakness.specs.Weakness.{lower_first, weakest_below, with_place, Before, Size, Weakest, number}
 
@@ -62,7 +62,7 @@ not_below_itself x h = elim (cases_Bool (lt x x)) [ inl t ↦ below_one_way x x 
 pub least_none_below : (x y : Float) → Size x → Size y → (lt x (float_min x y) ≡ false) × (lt y (float_min x y) ≡ false)
 least_none_below x y hx hy =
     cond_both (le x y || is_nan y) x y (λ z. (lt x z ≡ false) × (lt y z ≡ false))
-    (λ e. (not_below_itself x hx, not_true (lt y x) (sym (at_most x y hx hy) ∙ e)))
+    (λ e. (not_below_itself x hx, not-true (lt y x) (sym (at_most x y hx hy) ∙ e)))
     (λ e. (below_one_way y x hy hx (not-false (lt y x) (sym (at_most x y hx hy) ∙ e)), not_below_itself y hy))
 
 -- ---- places

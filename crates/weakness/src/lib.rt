@@ -2,13 +2,22 @@
 //!
 //! The weakness of a place is the smallest size among the six levels of its symbol. Of two places that are as weak as each other
 //! the lower counts as the weaker.
+#![tactic(auto)]
+
 ghost use Rattle.std.specs.Prelude.{◌≡◌, ℕ, ◌<◌, length, get_or, IfOk, Some, None, MatchResult, OnOk, slice_index_or};
-ghost use Rattle.std.specs.Float.{nan};
+ghost use Rattle.std.specs.Float.{float_min, nan};
 ghost use Rattle.decoders.specs.Asks.{ask_fault};
 ghost use Rattle.weakness.specs.Weakness.{lower_first, weakest_of, weakness, with_place, Least, Size, Weakest};
 
 use decoders::fault::AskFault;
 use levels::examine;
+
+/// The smaller of two numbers, and the other one where one is no number.
+fn smaller(a: f32, b: f32) -> f32
+    ensures { result ≡ float_min a b }
+{
+    if a <= b || b.is_nan() { a } else { b }
+}
 
 /// The smallest size among the six levels of the symbol at `place`.
 fn weakness_at(levels: &[f32], place: usize) -> f32
@@ -18,7 +27,7 @@ fn weakness_at(levels: &[f32], place: usize) -> f32
     let at = 6 * place;
     let mut least = levels[at].abs();
     for j in 1..6usize {
-        least = least.min(levels[at + j].abs());
+        least = smaller(least, levels[at + j].abs());
     }
     least
 }

@@ -1,4 +1,6 @@
 //! Scores a word against the levels on standard input.
+#![tactic(auto)]
+
 use anyhow::anyhow;
 use levels::read_levels;
 use refusal::InWords;

@@ -1,4 +1,6 @@
 //! Reads standard input as one word and prints what the check of it answers.
+#![tactic(auto)]
+
 use anyhow::anyhow;
 use message::check;
 use refusal::InWords;

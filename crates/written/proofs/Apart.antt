@@ -5,7 +5,7 @@ use Rattle.std.proofs.ByRecursion.{All-append}
 use Rattle.std.proofs.lemmas.List.Sums.{sum_by-cons, sum_by_more}
 use Rattle.std.proofs.lemmas.Bool.{cases_order, cond_both}
 use Rattle.std.specs.Int.Digits.{number_from_digits}
-use Rattle.std.specs.List.{AllByRecursion as All}
+use Rattle.std.specs.List.{AllByRecursion}
 use Rattle.bits.specs.Bits.{part, pasted}
 use Rattle.bits.proofs.Pasted.{part_after, part_before}
 use Rattle.layout.specs.Layout.{fields_of, parts_of, widths, width_of}
@@ -62,15 +62,15 @@ parts_beside from ps i j hi hj n =
 
 -- what holds of the fields of each part that is kept holds of them all
 pub spread_all : (P : Placed → Type 0) (keep : Part → Bool) (b : ℕ) (ps : List Part)
-    → ((i : ℕ) → i < length ps → keep (get_or ps i Opaque) ≡ true → All P (placed (start width_of b ps i) (fields_of (get_or ps i Opaque))))
-    → All P (spread keep b ps)
+    → ((i : ℕ) → i < length ps → keep (get_or ps i Opaque) ≡ true → AllByRecursion P (placed (start width_of b ps i) (fields_of (get_or ps i Opaque))))
+    → AllByRecursion P (spread keep b ps)
 unfolding spread
 spread_all P keep b [] h = tt
 spread_all P keep b (p ∷ ps) h =
     All-append P (kept keep b p) (spread keep (b + width_of p) ps)
-    (cond_both (keep p) (placed b (fields_of p)) [] (All P)
-    (λ k. subst (λ (n : ℕ). All P (placed n (fields_of p))) (add-zero b) (h 0 (omega arith) k)) (λ _. tt))
+    (cond_both (keep p) (placed b (fields_of p)) [] (AllByRecursion P)
+    (λ k. subst (λ (n : ℕ). AllByRecursion P (placed n (fields_of p))) (add-zero b) (h 0 (omega arith) k)) (λ _. tt))
     (spread_all P keep (b + width_of p) ps
     (λ i l k.
     let next : start width_of b (p ∷ ps) (suc i) ≡ start width_of (b + width_of p) ps i = omega (arith, sum_by-cons width_of p (take i ps)) in
-    subst (λ (n : ℕ). All P (placed n (fields_of (get_or ps i Opaque)))) next (h (suc i) (omega arith) k)))
+    subst (λ (n : ℕ). AllByRecursion P (placed n (fields_of (get_or ps i Opaque)))) next (h (suc i) (omega arith) k)))

@@ -3,15 +3,15 @@ use Rattle.std.proofs.Common.{◌≡◌, ℕ, zero, suc, ◌+◌, ◌-◌, ◌^�
 use mathlib.Core.Path.{subst⁻¹}
 use Rattle.std.proofs.lemmas.List.{get_or-set_other}
 use Rattle.std.proofs.lemmas.List.Sums.{sum_by_more, sum_by-take-le}
-use Rattle.std.proofs.lemmas.Bool.{both_ways, cases_eq, eq-eqb, eqb-true, not_true, or_cases, or_left, cases_Bool}
+use Rattle.std.proofs.lemmas.Bool.{both_ways, cases_eq, eq-eqb, eqb-true, not-true, or_cases, or_left, cases_Bool}
 use Rattle.std.specs.Int.Digits.{number_from_digits as number}
-use Rattle.std.specs.List.{AllByRecursion as All}
+use Rattle.std.specs.List.{AllByRecursion}
 use Rattle.bits.specs.Bits.{bits_of, part, pasted, spelled}
 use Rattle.bits.proofs.Pasted.{before_pasted, part_before, part_pasted}
 use Rattle.bits.proofs.Spelled.{length_spelled, number_spelled}
 use Rattle.bits.proofs.Symbols.{length_bits}
 use Rattle.blocks.specs.Held.{held_in, placed_of}
-use Rattle.blocks.specs.Numbered.{block_of}
+use Rattle.blocks.specs.Numbered.{Numbered, block_of}
 use Rattle.blocks.specs.Stands.{Stands}
 use Rattle.blocks.specs.Write.{first_unfit, pack, written_over}
 use Rattle.blocks.specs.declared.place.Place.{Place}
@@ -44,7 +44,7 @@ abbrev fields_at : List Part → ℕ → List Placed
 fields_at ps j = placed (start width_of 26 ps j) (fields_of (get_or ps j Opaque))
 
 -- fields that hold the same counts are in range together
-same_range : (ps : List Placed) (bs cs : List ℕ) → map (λ q. held q bs) ps ≡ map (λ q. held q cs) ps → All (InRange cs) ps → All (InRange bs) ps
+same_range : (ps : List Placed) (bs cs : List ℕ) → map (λ q. held q bs) ps ≡ map (λ q. held q cs) ps → AllByRecursion (InRange cs) ps → AllByRecursion (InRange bs) ps
 same_range ps bs cs e a =
     none_all ps bs (outside_held ps bs ∙ ap (first_unfit ps) e ∙ sym (outside_held ps cs) ∙ all_none ps cs a)
 
@@ -72,12 +72,12 @@ none_from None e = refl
 none_from (Some b) e = absurd (both_ways false refl e)
 
 -- the test of the ranges and what it says
-in_range_all : (t : MessageType) (done : List Bool) (m : List ℕ) → written_in_range t done m ≡ true → All (InRange (bits_of m)) (spread (is_written done) 26 (parts_of t))
+in_range_all : (t : MessageType) (done : List Bool) (m : List ℕ) → written_in_range t done m ≡ true → AllByRecursion (InRange (bits_of m)) (spread (is_written done) 26 (parts_of t))
 in_range_all t done m e =
     let ps = spread (is_written done) 26 (parts_of t) in
     none_all ps (bits_of m) (none_from (first_outside ps (bits_of m)) e)
 
-all_in_range : (t : MessageType) (done : List Bool) (m : List ℕ) → All (InRange (bits_of m)) (spread (is_written done) 26 (parts_of t)) → written_in_range t done m ≡ true
+all_in_range : (t : MessageType) (done : List Bool) (m : List ℕ) → AllByRecursion (InRange (bits_of m)) (spread (is_written done) 26 (parts_of t)) → written_in_range t done m ≡ true
 all_in_range t done m a = ap (λ (o : Option ℕ). not (is_some o)) (all_none (spread (is_written done) 26 (parts_of t)) (bits_of m) a)
 
 -- ---- a draft is started
@@ -129,7 +129,7 @@ one_block_lem t i j hi hj r e =
     elim (or_cases (is_reserved (get_or (parts_of t) i Opaque)) (not same || eqb i j) (each2 n n (one_block (parts_of t)) (one_block_test t) i j hi hj)) [
       | inl a ↦ absurd (both_ways (is_reserved (get_or (parts_of t) i Opaque)) r a)
       | inr b ↦ elim (or_cases (not same) (eqb i j) b) [
-        | inl c ↦ absurd (both_ways same (not_true same c) (eq-eqb (block_of (get_or (parts_of t) i Opaque)) (block_of (get_or (parts_of t) j Opaque)) e))
+        | inl c ↦ absurd (both_ways same (not-true same c) (eq-eqb (block_of (get_or (parts_of t) i Opaque)) (block_of (get_or (parts_of t) j Opaque)) e))
         | inr d ↦ eqb-true i j d
       ]
     ]
@@ -154,17 +154,17 @@ module _ (p : Place) (size : ℕ) (s : Stands p size) (zs : List ℤ) (m v : Lis
       ∙ same_held (bits_of m) (pack mine zs) p.first_bit (inside p size s zs m v counted long over) fs (start width_of 26 (parts_of p.message_type) j) beside
 
   -- the fields of this block are in range
-  mine : (j : ℕ) → j ≡ s.index → All (InRange (bits_of v)) (fields_at (parts_of p.message_type) j)
+  mine : (j : ℕ) → j ≡ s.index → AllByRecursion (InRange (bits_of v)) (fields_at (parts_of p.message_type) j)
   mine j e =
       let ps = parts_of p.message_type in
-      subst⁻¹ (λ (i : ℕ). All (InRange (bits_of v)) (fields_at ps i)) e
-      (subst⁻¹ (λ (x : Part). All (InRange (bits_of v)) (placed (start width_of 26 ps s.index) (fields_of x))) s.part
-      (subst⁻¹ (λ (b : ℕ). All (InRange (bits_of v)) (placed b (fields_of p.part))) s.first
+      subst⁻¹ (λ (i : ℕ). AllByRecursion (InRange (bits_of v)) (fields_at ps i)) e
+      (subst⁻¹ (λ (x : Part). AllByRecursion (InRange (bits_of v)) (placed (start width_of 26 ps s.index) (fields_of x))) s.part
+      (subst⁻¹ (λ (b : ℕ). AllByRecursion (InRange (bits_of v)) (placed b (fields_of p.part))) s.first
       (none_all (placed_of p) (bits_of v) (none_outside p size s zs m v counted long over unfit))))
 
   -- so are those of a part that was in range before
-  ranged : (j : ℕ) → j < length (parts_of p.message_type) → All (InRange (bits_of m)) (fields_at (parts_of p.message_type) j)
-      → All (InRange (bits_of v)) (fields_at (parts_of p.message_type) j)
+  ranged : (j : ℕ) → j < length (parts_of p.message_type) → AllByRecursion (InRange (bits_of m)) (fields_at (parts_of p.message_type) j)
+      → AllByRecursion (InRange (bits_of v)) (fields_at (parts_of p.message_type) j)
   ranged j h a =
       elim (cases_eq j s.index) [
         | inl e ↦ mine j e
@@ -172,21 +172,21 @@ module _ (p : Place) (size : ℕ) (s : Stands p size) (zs : List ℤ) (m v : Lis
       ]
 
   -- a part that counts as written once this block is marked is this block, or was written before
-  marked : (done : List Bool) (j : ℕ) → j < length (parts_of p.message_type)
+  marked : Numbered p → (done : List Bool) (j : ℕ) → j < length (parts_of p.message_type)
       → is_written (set done p.number true) (get_or (parts_of p.message_type) j Opaque) ≡ true
       → (j ≡ s.index) ⊎ (is_written done (get_or (parts_of p.message_type) j Opaque) ≡ true)
-  marked done j h k =
+  marked n done j h k =
       let x = get_or (parts_of p.message_type) j Opaque in
       elim (cases_eq (block_of x) p.number) [
-        | inr n ↦ inr (subst (λ (b : Bool). (is_reserved x || b) ≡ true) (get_or-set_other done p.number (block_of x) true false n) k)
+        | inr d ↦ inr (subst (λ (b : Bool). (is_reserved x || b) ≡ true) (get_or-set_other done p.number (block_of x) true false d) k)
         | inl e ↦ elim (cases_Bool (is_reserved x)) [
           | inl r ↦ inr (or_left (is_reserved x) (get_or done (block_of x) false) r)
-          | inr r ↦ inl (one_block_lem p.message_type j s.index h s.inside r (e ∙ sym s.numbered ∙ ap block_of (sym s.part)))
+          | inr r ↦ inl (one_block_lem p.message_type j s.index h s.inside r (e ∙ sym n ∙ ap block_of (sym s.part)))
         ]
       ]
 
-  pub put_marked : (done : List Bool) → Drafted p.message_type done m → Drafted p.message_type (set done p.number true) v
-  put_marked done d =
+  pub put_marked : Numbered p → (done : List Bool) → Drafted p.message_type done m → Drafted p.message_type (set done p.number true) v
+  put_marked n done d =
       let ps = parts_of p.message_type in
       let number = same_number p size s zs m v counted long over in
       let before = in_range_all p.message_type done m d.ranges in
@@ -197,26 +197,26 @@ module _ (p : Place) (size : ℕ) (s : Stands p size) (zs : List ℤ) (m v : Lis
         ranges =
             all_in_range p.message_type (set done p.number true) v
             (spread_all (InRange (bits_of v)) (is_written (set done p.number true)) 26 ps
-            (λ j h k. elim (marked done j h k) [
+            (λ j h k. elim (marked n done j h k) [
               | inl e ↦ mine j e
               | inr w ↦ ranged j h (in_spread (InRange (bits_of m)) (is_written done) 26 ps j h w before)
             ]));
       }
 
-  other_block : (q : Place) (n : ℕ) → Stands q n → q.message_type ≡ p.message_type → q.number ≢ p.number → held_in q v ≡ held_in q m
+  other_block : Numbered p → (q : Place) (n : ℕ) → Stands q n → Numbered q → q.message_type ≡ p.message_type → q.number ≢ p.number → held_in q v ≡ held_in q m
   unfolding held_in
-  other_block q n k e x =
+  other_block mine q n k theirs e x =
       let at = placed_at q n k p.message_type e in
       let apart : k.index ≢ s.index =
-      λ i. x (sym k.numbered ∙ ap block_of (sym at.part ∙ ap (λ (j : ℕ). get_or (parts_of p.message_type) j Opaque) i ∙ s.part) ∙ s.numbered) in
+      λ i. x (sym theirs ∙ ap block_of (sym at.part ∙ ap (λ (j : ℕ). get_or (parts_of p.message_type) j Opaque) i ∙ s.part) ∙ mine) in
       subst (λ (l : List Placed). map (λ y. held y (bits_of v)) l ≡ map (λ y. held y (bits_of m)) l) at.fields
       (other_held k.index at.inside apart)
 
-  pub put_into : PutInto p zs m v
-  put_into = record {
+  pub put_into : Numbered p → PutInto p zs m v
+  put_into n = record {
     holds = held_new p size s zs m v counted long over unfit;
     second = same_number p size s zs m v counted long over 6 20 (omega arith);
-    others = other_block;
+    others = other_block n;
   }
 
 -- ---- a draft is sealed
@@ -260,7 +260,7 @@ module _ (t : MessageType) (done : List Bool) (m v : List ℕ) (long : length m 
       ∙ sym (ap (λ l. crc_of (take 462 l)) over ∙ ap crc_of (before_pasted (bits_of m) (spelled 24 c) 462 room_for))
 
   module _ (all : (j : ℕ) → j < length (parts_of t) → is_written done (get_or (parts_of t) j Opaque) ≡ true) where
-    in_range : (keep : Part → Bool) → All (InRange (bits_of v)) (spread keep 26 (parts_of t))
+    in_range : (keep : Part → Bool) → AllByRecursion (InRange (bits_of v)) (spread keep 26 (parts_of t))
     in_range keep =
         let before = in_range_all t done m d.ranges in
         spread_all (InRange (bits_of v)) keep 26 (parts_of t)

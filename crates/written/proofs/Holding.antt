@@ -3,7 +3,7 @@ use Rattle.std.proofs.Common.{◌≡◌, ℕ, zero, suc, ◌+◌, ◌<◌, Bool,
 use Rattle.std.proofs.ByRecursion.{All-append}
 use Rattle.std.proofs.lemmas.List.Sums.{sum_by-cons}
 use Rattle.std.proofs.lemmas.Bool.{cond_both}
-use Rattle.std.specs.List.{AllByRecursion as All}
+use Rattle.std.specs.List.{AllByRecursion}
 use Rattle.layout.specs.Laws.{start}
 use Rattle.layout.specs.Layout.{fields_of, parts_of, widths, width_of}
 use Rattle.layout.specs.Placed.{placed, kept, spread}
@@ -25,13 +25,13 @@ parts xs = map (λ x. x.0) xs
 abbrev pub Apart : Part → Type 0
 Apart p = widths (fields_of p) ≡ width_of p
 
-pub taken_apart : (t : MessageType) → t ≢ Type40 → All Apart (parts_of t)
+pub taken_apart : (t : MessageType) → t ≢ Type40 → AllByRecursion Apart (parts_of t)
 unfolding parts_of width_of fields_of
 taken_apart Type10 n = (refl, (refl, (refl, (refl, tt))))
 taken_apart Type30 n = (refl, (refl, (refl, (refl, (refl, (refl, (refl, (refl, (refl, tt)))))))))
 taken_apart Type40 n = absurd (n refl)
 
-pub length_parts : (xs : List Counted) → All Apart (parts xs) → All Fits xs → length (parts_bits xs) ≡ sum_by width_of (parts xs)
+pub length_parts : (xs : List Counted) → AllByRecursion Apart (parts xs) → AllByRecursion Fits xs → length (parts_bits xs) ≡ sum_by width_of (parts xs)
 unfolding parts_bits
 length_parts [] a f = refl
 length_parts (x ∷ xs) a f =
@@ -50,7 +50,7 @@ HeldFrom bs b [] = Unit {0}
 HeldFrom bs b (x ∷ xs) = (map (λ q. held q bs) (placed b (fields_of x.0)) ≡ x.1) × HeldFrom bs (b + width_of x.0) xs
 
 pub held_from : (bs front rest : List ℕ) (b : ℕ) (xs : List Counted) → bs ≡ front ++ (parts_bits xs ++ rest) → length front ≡ b
-    → All Apart (parts xs) → All Fits xs → HeldFrom bs b xs
+    → AllByRecursion Apart (parts xs) → AllByRecursion Fits xs → HeldFrom bs b xs
 unfolding parts_bits
 held_from bs front rest b [] e n a f = tt
 held_from bs front rest b (x ∷ xs) e n a f =
@@ -65,16 +65,16 @@ held_from bs front rest b (x ∷ xs) e n a f =
     )
 
 -- so each field that a test keeps is in range
-pub in_range : (keep : Part → Bool) (bs : List ℕ) (b : ℕ) (xs : List Counted) → HeldFrom bs b xs → All Fits xs
-    → All (InRange bs) (spread keep b (parts xs))
+pub in_range : (keep : Part → Bool) (bs : List ℕ) (b : ℕ) (xs : List Counted) → HeldFrom bs b xs → AllByRecursion Fits xs
+    → AllByRecursion (InRange bs) (spread keep b (parts xs))
 unfolding spread
 in_range keep bs b [] h f = tt
 in_range keep bs b (x ∷ xs) h f =
     let fs = fields_of x.0 in
-    let here : All (InRange bs) (placed b fs) =
+    let here : AllByRecursion (InRange bs) (placed b fs) =
     none_all (placed b fs) bs (outside_held (placed b fs) bs ∙ ap (first_unfit (placed b fs)) h.0 ∙ fits_unfit b fs x.1 f.0) in
     All-append (InRange bs) (kept keep b x.0) (spread keep (b + width_of x.0) (parts xs))
-    (cond_both (keep x.0) (placed b fs) [] (All (InRange bs)) (λ _. here) (λ _. tt))
+    (cond_both (keep x.0) (placed b fs) [] (AllByRecursion (InRange bs)) (λ _. here) (λ _. tt))
     (in_range keep bs (b + width_of x.0) xs h.1 f.1)
 
 -- the part number i

@@ -4,7 +4,7 @@ use mathlib.Core.Path.{subst⁻¹}
 use lib.ListN.{length-map}
 use Rattle.std.proofs.lemmas.List.{drop_at, get_or-map, take_all, take_at}
 use Rattle.std.specs.Int.Digits.{number_from_digits}
-use Rattle.std.specs.List.{AllByRecursion as All}
+use Rattle.std.specs.List.{AllByRecursion}
 use Rattle.bits.specs.Bits.{bits_of, part, spelled}
 use Rattle.bits.proofs.Spelled.{length_spelled, number_spelled}
 use Rattle.crc.specs.Crc.{crc_of, crc_of_message}
@@ -31,10 +31,10 @@ type_small Type30 = omega arith
 type_small Type40 = omega arith
 
 -- the bits before the CRC
-pub message_long : (t : MessageType) (s : ℕ) (xs : List Counted) → All Apart (parts_of t) → Full t xs → length (message_bits t s xs) ≡ 462
+pub message_long : (t : MessageType) (s : ℕ) (xs : List Counted) → AllByRecursion Apart (parts_of t) → Full t xs → length (message_bits t s xs) ≡ 462
 unfolding message_bits
 message_long t s xs a f =
-    let n = length_parts xs (subst⁻¹ (All Apart) f.parts a) f.fits in
+    let n = length_parts xs (subst⁻¹ (AllByRecursion Apart) f.parts a) f.fits in
     simp length-append (omega (
       arith,
       length_spelled 6 (number_of t),
@@ -51,7 +51,7 @@ module _ (m : List ℕ) (t : MessageType) (s : ℕ) (xs : List Counted) (w : Wri
   end : List ℕ
   end = spelled 24 (crc_of body)
 
-  apart : All Apart (parts_of t)
+  apart : AllByRecursion Apart (parts_of t)
   apart = taken_apart t w.apart
 
   long : length body ≡ 462
@@ -94,11 +94,11 @@ module _ (m : List ℕ) (t : MessageType) (s : ℕ) (xs : List Counted) (w : Wri
   held_all =
       held_from (bits_of m) (spelled 6 (number_of t) ++ spelled 20 s) end 26 xs (apart_of ∙ simp append_assoc)
       (length-append (spelled 6 (number_of t)) (spelled 20 s) ∙ omega (arith, length_spelled 6 (number_of t), length_spelled 20 s))
-      (subst⁻¹ (All Apart) w.full.parts apart) w.full.fits
+      (subst⁻¹ (AllByRecursion Apart) w.full.parts apart) w.full.fits
 
-  ranged : (keep : Part → Bool) → All (InRange (bits_of m)) (spread keep 26 (parts_of t))
+  ranged : (keep : Part → Bool) → AllByRecursion (InRange (bits_of m)) (spread keep 26 (parts_of t))
   ranged keep =
-      subst (λ (ps : List Part). All (InRange (bits_of m)) (spread keep 26 ps)) w.full.parts
+      subst (λ (ps : List Part). AllByRecursion (InRange (bits_of m)) (spread keep 26 ps)) w.full.parts
       (in_range keep (bits_of m) 26 xs held_all w.full.fits)
 
   law : Lawful m

@@ -5,7 +5,7 @@ use lib.ListN.{replicate-append-replicate}
 use Rattle.std.proofs.lemmas.List.{drop_at, drop-drop, drop-replicate, take_at}
 use Rattle.std.proofs.lemmas.Int.{ints}
 use Rattle.std.proofs.lemmas.List.Sums.{sum_by-cons}
-use Rattle.std.specs.List.{AllByRecursion as All}
+use Rattle.std.specs.List.{AllByRecursion}
 use Rattle.bits.specs.Bits.{bits_of, pasted, spelled}
 use Rattle.bits.proofs.Spelled.{length_spelled}
 use Rattle.bits.proofs.Symbols.{bits_take}
@@ -92,7 +92,7 @@ step front b n p zs e f h (inl r) =
 step front b n p zs e f h (inr r) =
     ap (λ (t : Bool). cond t (front ++ replicate n 0) (over p b zs (front ++ replicate n 0))) r ∙ paste_zeros front (pack (fields_of p) zs) b n e
 
-pub written_from_lem : (xs : List Counted) (front : List ℕ) (b n : ℕ) → length front ≡ b → All Apart (parts xs) → All Fits xs
+pub written_from_lem : (xs : List Counted) (front : List ℕ) (b n : ℕ) → length front ≡ b → AllByRecursion Apart (parts xs) → AllByRecursion Fits xs
     → sum_by width_of (parts xs) ≤ n
     → written_from b xs (front ++ replicate n 0) ≡ front ++ (parts_bits xs ++ replicate (n - sum_by width_of (parts xs)) 0)
 unfolding parts_bits
@@ -115,8 +115,8 @@ written_from_lem (x ∷ xs) front b n e a f h =
 -- ---- a message
 
 module _ (t : MessageType) (s : ℕ) (xs : List Counted) (n : t ≢ Type40) (f : Full t xs) where
-  apart : All Apart (parts xs)
-  apart = subst⁻¹ (All Apart) f.parts (taken_apart t n)
+  apart : AllByRecursion Apart (parts xs)
+  apart = subst⁻¹ (AllByRecursion Apart) f.parts (taken_apart t n)
 
   pub run_bits : written_from 26 xs (start_bits (number_of t) s) ≡ message_bits t s xs ++ replicate 510 0
   unfolding start_bits message_bits

@@ -2,7 +2,7 @@
 use Rattle.std.specs.Prelude.{◌≡◌, ℕ, ◌≤◌, Bool, true, false, not, ◌||◌, ◌≢◌, List, ℤ, is_some, slice_index_or}
 use Rattle.bits.specs.Bits.{bits_of}
 use Rattle.blocks.specs.Held.{held_in}
-use Rattle.blocks.specs.Numbered.{block_of}
+use Rattle.blocks.specs.Numbered.{Numbered, block_of}
 use Rattle.blocks.specs.Stands.{Stands}
 use Rattle.blocks.specs.declared.place.Place.{Place}
 use Rattle.layout.specs.Layout.{number_of, parts_of}
@@ -33,7 +33,7 @@ pub record Drafted (t : MessageType) (done : List Bool) (m : List ℕ) : Type 0 
 pub record PutInto (p : Place) (zs : List ℤ) (m v : List ℕ) : Type 0 where
   pub holds : held_in p v ≡ zs
   pub second : number_at v 6 20 ≡ number_at m 6 20
-  pub others : (q : Place) (size : ℕ) → Stands q size → q.message_type ≡ p.message_type → q.number ≢ p.number → held_in q v ≡ held_in q m
+  pub others : (q : Place) (size : ℕ) → Stands q size → Numbered q → q.message_type ≡ p.message_type → q.number ≢ p.number → held_in q v ≡ held_in q m
 
 -- v is the lawful message of the draft m: its type is t, and the second and every block are as in m
 pub record SealedAs (t : MessageType) (m v : List ℕ) : Type 0 where

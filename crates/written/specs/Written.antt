@@ -1,6 +1,6 @@
 -- A message as it is written: its type, its second, and then its parts, one after another.
 use Rattle.std.specs.Prelude.{◌≡◌, ℕ, ◌+◌, ◌≤◌, cond, ◌≢◌, List, [], ◌∷◌, ◌++◌, map, take, replicate, ℤ, slice_index_or}
-use Rattle.std.specs.List.{AllByRecursion as All}
+use Rattle.std.specs.List.{AllByRecursion}
 use Rattle.bits.specs.Bits.{bits_of, pasted, spelled}
 use Rattle.blocks.specs.Held.{held_in}
 use Rattle.blocks.specs.Stands.{Stands}
@@ -47,7 +47,7 @@ Fits x = FitsAll (fields_of x.0) x.1
 -- the parts of the type t, in their order, each with counts that it may hold
 pub record Full (t : MessageType) (xs : List Counted) : Type 0 where
   pub parts : map (λ x. x.0) xs ≡ parts_of t
-  pub fits : All Fits xs
+  pub fits : AllByRecursion Fits xs
 
 -- m is written so, of a type that is taken apart and at a second of the week
 pub record WrittenAs (m : List ℕ) (t : MessageType) (s : ℕ) (xs : List Counted) : Type 0 where

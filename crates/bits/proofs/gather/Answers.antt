@@ -5,11 +5,11 @@ use Rattle.bits.specs.Bits.{bits_of, part}
 use Rattle.bits.proofs.Symbols.{nine_lt, number_symbol}
 use Rattle.bits.proofs.gather.Goals as goal
 
-pub overflow-mul-v : goal.overflow-mul-v
-overflow-mul-v c = omega (arith, nine_lt c.args.symbols.now c.args.first (c.loop-i.i - c.args.first) (omega arith))
+pub overflow_mul-v : goal.overflow_mul-v
+overflow_mul-v c = omega (arith, nine_lt c.args.symbols.now c.args.first (c.loop-i.i - c.args.first) (omega arith))
 
-pub overflow-add-v : goal.overflow-add-v
-overflow-add-v c = omega (arith, nine_lt c.args.symbols.now c.args.first (c.loop-i.i - c.args.first) (omega arith))
+pub overflow_add-v : goal.overflow_add-v
+overflow_add-v c = omega (arith, nine_lt c.args.symbols.now c.args.first (c.loop-i.i - c.args.first) (omega arith))
 
 pub loop-i-preserved : goal.loop-i-preserved
 loop-i-preserved c =

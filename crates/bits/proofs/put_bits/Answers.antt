@@ -17,7 +17,7 @@ loop-i-preserved c =
     let n = length_spelled w v in
     let one = spelled_at w v i here in
     let more = pasted_step (bits_of ss) (spelled w v) at i 0 (omega (arith, length_bits ss)) (omega arith) in
-    (cc, λ k a. c.set-bit.ensures.small k (c.loop-i.invariant.1 k a))
+    (cc, λ k a. c.set_bit.ensures.small k (c.loop-i.invariant.1 k a))
 
 pub returns : goal.returns
 returns c =

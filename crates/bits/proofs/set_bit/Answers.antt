@@ -2,11 +2,11 @@ use Rattle.std.proofs.Common.{◌/◌, ◌%◌, ◌<◌, get_or, arith, rules}
 use Rattle.bits.proofs.Symbols.{put, put_is, put_lt, put_bit, small_set}
 use Rattle.bits.proofs.set_bit.Goals as goal
 
-pub overflow-sub-symbols : goal.overflow-sub-symbols
-overflow-sub-symbols c = (put_is (get_or c.args.symbols.now (c.args.k / 6) 0) (c.args.k % 6) c.args.b (omega arith) (omega arith)).0
+pub overflow_sub-symbols : goal.overflow_sub-symbols
+overflow_sub-symbols c = (put_is (get_or c.args.symbols.now (c.args.k / 6) 0) (c.args.k % 6) c.args.b (omega arith) (omega arith)).0
 
-pub overflow-add-symbols : goal.overflow-add-symbols
-overflow-add-symbols c =
+pub overflow_add-symbols : goal.overflow_add-symbols
+overflow_add-symbols c =
     let s = get_or c.args.symbols.now (c.args.k / 6) 0 in
     let byte : s < 256 = search rules in
     record { fits = omega (arith, put_lt s (c.args.k % 6) c.args.b (omega arith) (omega arith)) }

@@ -11,8 +11,8 @@ use Rattle.blocks.specs.declared.place.Place.{Place}
 use Rattle.blocks.proofs.Placing.{no_field, length_held, held_at, turn}
 use Rattle.blocks.proofs.get_counts.Goals as goal
 
-pub overflow-add-at : goal.overflow-add-at
-overflow-add-at g c =
+pub overflow_add-at : goal.overflow_add-at
+overflow_add-at g c =
     let t = turn g.K.Block.site c.place-place.result g.K.Block.size g.met.K.Block.stands c.place-place.ensures
     c.fields-all.result.now c.fields-all.ensures c.loop-i.i c.loop-i.at (omega arith) c.loop-i.invariant.0 in
     record { fits = omega (arith, t.inside) }
@@ -27,10 +27,10 @@ loop-i-preserved g c =
     let i = c.loop-i.i in
     let t = turn b.site c.place-place.result b.size g.met.K.Block.stands c.place-place.ensures fs c.fields-all.ensures
     i c.loop-i.at (omega arith) c.loop-i.invariant.0 in
-    let z = to_z-of_z w64 c.count-at.result (record { sfits = c.count-at.type-inv }) ∙ c.count-at.ensures.same t.sized (omega (arith, t.inside)) in
+    let z = to_z-of_z w64 c.count_at.result (record { sfits = c.count_at.type_inv }) ∙ c.count_at.ensures.same t.sized (omega (arith, t.inside)) in
     let old = b.counts c.loop-i.found in
     let long : i < length old = omega (arith, g.met.K.Block.counted c.loop-i.found, t.long) in
-    let e = c.set-count.ensures in (
+    let e = c.set_count.ensures in (
       t.next,
       below_more _ _
           (λ k h. let other : k ≢ i = omega arith in

@@ -24,7 +24,7 @@ raw_of-raw-requires g c =
     let i = c.loop-i.i in
     let t = turn b.site c.place-place.result b.size g.met.K.Block.stands c.place-place.ensures fs c.fields-all.ensures
     i c.loop-i.at (omega arith) c.loop-i.invariant.0 in
-    let z = to_z-of_z w64 c.count.result (record { sfits = c.count.type-inv }) ∙ c.count.ensures in (
+    let z = to_z-of_z w64 c.count.result (record { sfits = c.count.type_inv }) ∙ c.count.ensures in (
       t.sized.some,
       (
         t.sized.few,
@@ -34,8 +34,8 @@ raw_of-raw-requires g c =
       ),
     )
 
-pub overflow-add-at : goal.overflow-add-at
-overflow-add-at g c =
+pub overflow_add-at : goal.overflow_add-at
+overflow_add-at g c =
     let t = turn g.K.Block.site c.place-place.result g.K.Block.size g.met.K.Block.stands c.place-place.ensures
     c.fields-all.result.now c.fields-all.ensures c.loop-i.i c.loop-i.at (omega arith) c.loop-i.invariant.0 in
     record { fits = omega (arith, t.inside) }
@@ -50,14 +50,14 @@ loop-i-preserved g c =
     let bs = bits_of c.args.symbols.now in
     let t = turn b.site c.place-place.result b.size g.met.K.Block.stands c.place-place.ensures fs c.fields-all.ensures
     i c.loop-i.at (omega arith) c.loop-i.invariant.0 in
-    let z = to_z-of_z w64 c.count.result (record { sfits = c.count.type-inv }) ∙ c.count.ensures in (
+    let z = to_z-of_z w64 c.count.result (record { sfits = c.count.type_inv }) ∙ c.count.ensures in (
       t.next,
-      c.put-bits.ensures.bits (omega (arith, c.requires.0, c.loop-i.auto.symbols)) t.sized.few (omega (arith, t.inside))
+      c.put_bits.ensures.bits (omega (arith, c.requires.0, c.loop-i.auto.symbols)) t.sized.few (omega (arith, t.inside))
           ∙ ap (λ v. pasted (bits_of c.loop-i.symbols) c.loop-i.at (spelled w v)) (c.raw_of-raw.ensures ∙ ap (raw_of w) z)
           ∙ pack_step fs zs bs (bits_of c.loop-i.symbols) c.place-place.result.first_bit c.loop-i.at i (omega arith)
           (g.met.K.Block.counted c.args.of.now ∙ sym t.long)
           (omega (arith, t.inside, c.requires.0, length_bits c.args.symbols.now)) c.loop-i.invariant.0 c.loop-i.invariant.1,
-      λ k a. c.put-bits.ensures.small k (c.loop-i.invariant.2 k a),
+      λ k a. c.put_bits.ensures.small k (c.loop-i.invariant.2 k a),
     )
 
 pub returns : goal.returns

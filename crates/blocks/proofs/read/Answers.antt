@@ -10,7 +10,7 @@ returns g c =
     let m = c.args.bytes.now in
     let s = g.met.K.Block.stands in
     record {
-      answer = c.read-in-turn.ensures.answer;
-      writes = MatchResult-weaker c.read-in-turn.result c.read-in-turn.ensures.held (λ got e. write_back b.site b.size s m (b.counts got) e.1 e.0) (λ _ h. h);
-      accepted = λ w t e f. ap is_ok c.read-in-turn.ensures.answer ∙ accepted b.site b.size s b.made m w t e f;
+      answer = c.read_in_turn.ensures.answer;
+      writes = MatchResult-weaker c.read_in_turn.result c.read_in_turn.ensures.held (λ got e. write_back b.site b.size s m (b.counts got) e.1 e.0) (λ _ h. h);
+      accepted = λ w t e f. ap is_ok c.read_in_turn.ensures.answer ∙ accepted b.site b.size s b.made m w t e f;
     }

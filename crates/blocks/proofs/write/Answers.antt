@@ -8,10 +8,10 @@ returns g c =
     let b = g.K.Block in
     let of = c.args.of.now in
     let ss = c.args.symbols.now in
-    let ts = c.put-counts.new.symbols in
-    let bits = c.put-counts.ensures.bits in
-    let small = c.put-counts.ensures.small in
-    let fit = c.in-default.ensures in
+    let ts = c.put_counts.new.symbols in
+    let bits = c.put_counts.ensures.bits in
+    let small = c.put_counts.ensures.small in
+    let fit = c.in_default.ensures in
     record {
       answer = answered b.site (b.counts of) _ (omega arith) fit;
       written = λ _. bits;

@@ -1,8 +1,8 @@
 use Rattle.std.proofs.Common.{length, refl, ◌∙◌}
 use Rattle.layout.specs.declared.MessageType.TheVariants.{Type10 as Kind10}
-use Rattle.type10.specs.Ephemeris1Counts.{record_of as ephemeris1-record}
-use Rattle.type10.specs.Ephemeris2Counts.{record_of as ephemeris2-record}
-use Rattle.type10.specs.IntegrityCounts.{record_of as integrity-record}
+use Rattle.type10.specs.Ephemeris1Counts.{record_of as ephemeris1_record}
+use Rattle.type10.specs.Ephemeris2Counts.{record_of as ephemeris2_record}
+use Rattle.type10.specs.IntegrityCounts.{record_of as integrity_record}
 use Rattle.compose.specs.declared.records.Records.TheVariants.{Type10}
 use Rattle.compose.proofs.Filling.{all_fit, begun, none_left, read_one, step}
 use Rattle.compose.proofs.draft_10.Goals as goal
@@ -20,9 +20,9 @@ returns c =
         second = p3.second;
         full = none_left _ _ _ _ _ _ p3 refl;
         reads = λ v e. record {
-          ephemeris1 = read_one _ _ v _ ephemeris1-record e p3.held.1.1.0;
-          ephemeris2 = read_one _ _ v _ ephemeris2-record e p3.held.1.0;
-          integrity = read_one _ _ v _ integrity-record e p3.held.0;
+          ephemeris1 = read_one _ _ v _ ephemeris1_record e p3.held.1.1.0;
+          ephemeris2 = read_one _ _ v _ ephemeris2_record e p3.held.1.0;
+          integrity = read_one _ _ v _ integrity_record e p3.held.0;
         };
       };
       same = c.put-3.ensures.same ∙ c.put-2.ensures.same ∙ c.put.ensures.same ∙ c.start-draft.ensures.same;

@@ -1,13 +1,13 @@
 use Rattle.std.proofs.Common.{length, refl, ◌∙◌}
 use Rattle.layout.specs.declared.MessageType.TheVariants.{Type30 as Kind30}
-use Rattle.type30.specs.WeekCounts.{record_of as week-record}
-use Rattle.type30.specs.ClockCounts.{record_of as clock-record}
-use Rattle.type30.specs.GroupDelayCounts.{record_of as group-delay-record}
-use Rattle.type30.specs.IonosphereCounts.{record_of as ionosphere-record}
-use Rattle.type30.specs.BdtUtcCounts.{record_of as bdt-utc-record}
-use Rattle.type30.specs.EarthOrientationCounts.{record_of as earth-orientation-record}
-use Rattle.type30.specs.AccuracyCounts.{record_of as accuracy-record}
-use Rattle.type30.specs.HealthCounts.{record_of as health-record}
+use Rattle.type30.specs.WeekCounts.{record_of as week_record}
+use Rattle.type30.specs.ClockCounts.{record_of as clock_record}
+use Rattle.type30.specs.GroupDelayCounts.{record_of as group_delay-record}
+use Rattle.type30.specs.IonosphereCounts.{record_of as ionosphere_record}
+use Rattle.type30.specs.BdtUtcCounts.{record_of as bdt_utc-record}
+use Rattle.type30.specs.EarthOrientationCounts.{record_of as earth_orientation-record}
+use Rattle.type30.specs.AccuracyCounts.{record_of as accuracy_record}
+use Rattle.type30.specs.HealthCounts.{record_of as health_record}
 use Rattle.compose.specs.declared.records.Records.TheVariants.{Type30}
 use Rattle.compose.proofs.Filling.{all_fit, begun, none_left, read_one, step}
 use Rattle.compose.proofs.draft_30.Goals as goal
@@ -30,14 +30,14 @@ returns c =
         second = p8.second;
         full = none_left _ _ _ _ _ _ p8 refl;
         reads = λ v e. record {
-          week = read_one _ _ v _ week-record e p8.held.1.1.1.1.1.1.1.0;
-          clock = read_one _ _ v _ clock-record e p8.held.1.1.1.1.1.1.0;
-          group_delay = read_one _ _ v _ group-delay-record e p8.held.1.1.1.1.1.0;
-          ionosphere = read_one _ _ v _ ionosphere-record e p8.held.1.1.1.1.0;
-          bdt_utc = read_one _ _ v _ bdt-utc-record e p8.held.1.1.1.0;
-          earth_orientation = read_one _ _ v _ earth-orientation-record e p8.held.1.1.0;
-          accuracy = read_one _ _ v _ accuracy-record e p8.held.1.0;
-          health = read_one _ _ v _ health-record e p8.held.0;
+          week = read_one _ _ v _ week_record e p8.held.1.1.1.1.1.1.1.0;
+          clock = read_one _ _ v _ clock_record e p8.held.1.1.1.1.1.1.0;
+          group_delay = read_one _ _ v _ group_delay-record e p8.held.1.1.1.1.1.0;
+          ionosphere = read_one _ _ v _ ionosphere_record e p8.held.1.1.1.1.0;
+          bdt_utc = read_one _ _ v _ bdt_utc-record e p8.held.1.1.1.0;
+          earth_orientation = read_one _ _ v _ earth_orientation-record e p8.held.1.1.0;
+          accuracy = read_one _ _ v _ accuracy_record e p8.held.1.0;
+          health = read_one _ _ v _ health_record e p8.held.0;
         };
       };
       same = c.put-8.ensures.same ∙ c.put-7.ensures.same ∙ c.put-6.ensures.same ∙ c.put-5.ensures.same ∙ c.put-4.ensures.same ∙ c.put-3.ensures.same ∙ c.put-2.ensures.same ∙ c.put.ensures.same ∙ c.start-draft.ensures.same;

@@ -21,5 +21,5 @@ returns-in-3 c =
     let s = c.args.satellite in let word = c.args.word.now in
     sym (ap (byte_of s word) c.in-3.is ∙ byte_3 s word (omega arith))
 
-pub returns-in-default : goal.returns-in-default
-returns-in-default c = c.word-byte.ensures ∙ sym (byte_after c.args.satellite c.args.word.now c.args.i (omega arith))
+pub returns-in_default : goal.returns-in_default
+returns-in_default c = c.word_byte.ensures ∙ sym (byte_after c.args.satellite c.args.word.now c.args.i (omega arith))

@@ -7,12 +7,12 @@ pub loop-i-preserved : goal.loop-i-preserved
 loop-i-preserved c =
     below_more _ _
     (λ k h. let ne : k ≢ c.loop-i.i = omega arith in rw get_or-set_other (c.loop-i.invariant k h))
-    (let lt : c.loop-i.i < length c.loop-i.out = omega arith in rw get_or-set_same c.frame-byte.ensures)
+    (let lt : c.loop-i.i < length c.loop-i.out = omega arith in rw get_or-set_same c.frame_byte.ensures)
 
 pub returns : goal.returns
 returns c =
     let s = c.args.satellite in let word = c.args.word.now in
     record {
       answer = search rules;
-      bits = bytes_write c.loop-i.out (frame_bits s word) (under_frame s word) (omega (arith, length_frame s word c.requires, c.in-ok-ask-frame.ensures.fits.0)) (λ k l. c.loop-i.invariant k (omega (arith, c.in-ok-ask-frame.ensures.fits.0)));
+      bits = bytes_write c.loop-i.out (frame_bits s word) (under_frame s word) (omega (arith, length_frame s word c.requires, c.in_ok-ask_frame.ensures.fits.0)) (λ k l. c.loop-i.invariant k (omega (arith, c.in_ok-ask_frame.ensures.fits.0)));
     }

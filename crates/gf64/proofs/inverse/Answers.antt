@@ -13,8 +13,8 @@ returns-then-x-eq0 c =
     let more = clauses c.args.a 0 e in
     record { low = e; same = more.0; below = more.1; field = laws }
 
-pub overflow-sub-log : goal.overflow-sub-log
-overflow-sub-log c = omega (arith, log_lt (c.args.a % 64) (omega arith))
+pub overflow_sub-log : goal.overflow_sub-log
+overflow_sub-log c = omega (arith, log_lt (c.args.a % 64) (omega arith))
 
 pub exp-requires : goal.exp-requires
 exp-requires c = omega (arith, log_lt (c.args.a % 64) (omega arith))

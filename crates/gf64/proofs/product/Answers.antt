@@ -22,8 +22,8 @@ returns-then-x-eq0 c =
     let more = clauses a b 0 e in
     record { low = e; same = more.0; below = more.1 }
 
-pub overflow-add-log : goal.overflow-add-log
-overflow-add-log c = omega (arith, log_lt (c.args.a % 64) (omega arith), log_lt (c.args.b % 64) (omega arith))
+pub overflow_add-log : goal.overflow_add-log
+overflow_add-log c = omega (arith, log_lt (c.args.a % 64) (omega arith), log_lt (c.args.b % 64) (omega arith))
 
 pub exp-requires : goal.exp-requires
 exp-requires c = omega (arith, log_lt (c.args.a % 64) (omega arith), log_lt (c.args.b % 64) (omega arith))

@@ -2,6 +2,6 @@ use Rattle.std.proofs.Common.{rules}
 use Rattle.layout.specs.Ranges.{first_outside}
 use Rattle.layout.proofs.first_in_part.Goals as goal
 
-pub returns-else-is-reserved-reserved : goal.returns-else-is-reserved-reserved
+pub returns-else-is_reserved-reserved : goal.returns-else-is_reserved-reserved
 unfolding first_outside
-returns-else-is-reserved-reserved c = search rules
+returns-else-is_reserved-reserved c = search rules

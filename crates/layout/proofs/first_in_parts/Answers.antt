@@ -14,8 +14,8 @@ pub loop-part-init : goal.loop-part-init
 loop-part-init c =
     (ap (λ (ps : List Part). 26 + sum_by width_of ps) c.parts-part-items.ensures.same ∙ data_end c.args.kind, refl)
 
-pub first-in-part-requires : goal.first-in-part-requires
-first-in-part-requires c =
+pub first_in_part-requires : goal.first_in_part-requires
+first_in_part-requires c =
     omega (
       arith,
       sum_by-drop_more width_of c.parts-part-items.result.now c.loop-part.part-index Reserved
@@ -30,8 +30,8 @@ returns-in-Some c =
     ∙ c.loop-part.invariant.1
     ∙ ap (λ (ps : List Part). first_outside (spread keep 26 ps) bs) c.parts-part-items.ensures.same
 
-pub overflow-add-at : goal.overflow-add-at
-overflow-add-at c =
+pub overflow_add-at : goal.overflow_add-at
+overflow_add-at c =
     record {
       fits =
           omega (
@@ -48,7 +48,7 @@ loop-part-preserved c =
     let ps = c.parts-part-items.result.now in let i = c.loop-part.part-index in let n = c.loop-part.at in (
       omega (arith, sum_by-drop_more width_of ps i Reserved c.loop-part-test.true, c.width-at.ensures),
       ap (λ (w : ℕ). first_outside (spread keep (n + w) (drop (i + 1) ps)) bs) c.width-at.ensures
-          ∙ part_on keep ps i n bs c.loop-part-test.true c.in-default.ensures
+          ∙ part_on keep ps i n bs c.loop-part-test.true c.in_default.ensures
           ∙ c.loop-part.invariant.1,
     )
 

@@ -6,5 +6,5 @@ use Rattle.layout.proofs.first_out_of_range.Goals as goal
 pub returns : goal.returns
 unfolding parameters_of
 returns c =
-    let e = c.first-in-parts.ensures in
-    record { same = e; first = first (parameters_of c.args.kind) (bits_of c.args.symbols.now) c.first-in-parts.result e }
+    let e = c.first_in_parts.ensures in
+    record { same = e; first = first (parameters_of c.args.kind) (bits_of c.args.symbols.now) c.first_in_parts.result e }

@@ -6,5 +6,5 @@ use Rattle.layout.proofs.first_set_reserved.Goals as goal
 pub returns : goal.returns
 unfolding reserved_of
 returns c =
-    let e = c.first-in-parts.ensures in
-    record { same = e; first = first (reserved_of c.args.kind) (bits_of c.args.symbols.now) c.first-in-parts.result e }
+    let e = c.first_in_parts.ensures in
+    record { same = e; first = first (reserved_of c.args.kind) (bits_of c.args.symbols.now) c.first_in_parts.result e }

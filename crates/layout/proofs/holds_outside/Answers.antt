@@ -5,6 +5,6 @@ use Rattle.layout.proofs.holds_outside.Goals as goal
 
 pub returns : goal.returns
 returns c =
-    c.is-outside.ensures
+    c.is_outside.ensures
     ∙ ap (outside c.args.field)
-    (to_z-of_z w64 c.count-at.result (record { sfits = c.count-at.type-inv }) ∙ c.count-at.ensures.same c.requires.0 c.requires.1)
+    (to_z-of_z w64 c.count_at.result (record { sfits = c.count_at.type_inv }) ∙ c.count_at.ensures.same c.requires.0 c.requires.1)

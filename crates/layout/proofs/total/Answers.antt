@@ -6,8 +6,8 @@ use Rattle.layout.specs.Layout.{widths}
 use Rattle.layout.proofs.Walk.{no_field}
 use Rattle.layout.proofs.total.Goals as goal
 
-pub overflow-add-bits : goal.overflow-add-bits
-overflow-add-bits c =
+pub overflow_add-bits : goal.overflow_add-bits
+overflow_add-bits c =
     let fs = c.args.fields.now in let i = c.loop-field.field-index in
     record {
       fits =

@@ -10,5 +10,5 @@ pub returns-in-Opaque : goal.returns-in-Opaque
 unfolding width_of
 returns-in-Opaque c = sym (ap width_of c.in-Opaque.is)
 
-pub returns-in-default : goal.returns-in-default
-returns-in-default c = c.total.ensures ∙ ap widths c.fields.ensures ∙ width_fields c.args.part c.in-default.not-Opaque
+pub returns-in_default : goal.returns-in_default
+returns-in_default c = c.total.ensures ∙ ap widths c.fields.ensures ∙ width_fields c.args.part c.in_default.not-Opaque

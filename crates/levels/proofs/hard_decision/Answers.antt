@@ -10,13 +10,13 @@ use Rattle.levels.proofs.hard_decision.Goals as goal
 pub unreachable-requires : goal.unreachable-requires
 unreachable-requires c =
     let xs = c.args.levels.now in
-    let symbols = hard_symbols 162 xs (length_levels 972 xs c.in-ok-examine.ensures) in
-    let none = ap (symbol_fault 162) c.symbols-of.ensures ∙ of_symbols 162 _ symbols in
-    false≢true (ap is_some (sym none ∙ c.in-default.ensures))
+    let symbols = hard_symbols 162 xs (length_levels 972 xs c.in_ok-examine.ensures) in
+    let none = ap (symbol_fault 162) c.symbols_of.ensures ∙ of_symbols 162 _ symbols in
+    false≢true (ap is_some (sym none ∙ c.in_default.ensures))
 
 pub returns : goal.returns
 returns c =
     let xs = c.args.levels.now in
-    let legal = c.in-ok-examine.ensures in
-    let word = c.in-Ok.ensures.0 ∙ c.symbols-of.ensures in
+    let legal = c.in_ok-examine.ensures in
+    let word = c.in-Ok.ensures.0 ∙ c.symbols_of.ensures in
     record { word = (word, legal); bits = ap bits_of word ∙ bits_hard 162 xs (length_levels 972 xs legal) }

@@ -7,7 +7,7 @@ loop-k-preserved c = (
   simp length-set (omega arith),
   below_more _ _
       (λ k h. let ne : k ≢ c.loop-k.k = omega arith in rw get_or-set_other (c.loop-k.invariant.1 k h))
-      (let lt : c.loop-k.k < length c.loop-k.symbol-items = omega arith in rw get_or-set_same c.symbol-at.ensures),
+      (let lt : c.loop-k.k < length c.loop-k.symbol-items = omega arith in rw get_or-set_same c.symbol_at.ensures),
 )
 
 pub returns : goal.returns

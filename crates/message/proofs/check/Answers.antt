@@ -5,6 +5,6 @@ use Rattle.message.proofs.check.Goals as goal
 pub returns : goal.returns
 returns c =
     let w = c.args.bytes.now in
-    let r = c.check-in-turn.result in
-    let e = c.check-in-turn.ensures in
+    let r = c.check_in_turn.result in
+    let e = c.check_in_turn.ensures in
     record { answer = e; carries = decided w r e; only = λ m n. sym n.begins; altered = altered_refused w r e }

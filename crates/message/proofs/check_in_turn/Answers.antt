@@ -15,10 +15,10 @@ of_message w v m r same a b c d =
     ap (in_turn None None) (d ∙ ap examined (c ∙ ap (take 81) same))
     ∙ ap (λ o. in_turn None o x) (b ∙ ap first_nonzero same) ∙ ap (λ o. in_turn o (first_nonzero w) x) (sym a)
 
-pub returns-in-err-header : goal.returns-in-err-header
-returns-in-err-header c =
-    let p = err_from_is_err_and c.from-residual-in-err-header.result c.from-residual-in-err-header.ensures.1 in
-    let word = c.in-ok-word.ensures in
+pub returns-in_err-header : goal.returns-in_err-header
+returns-in_err-header c =
+    let p = err_from_is_err_and c.from_residual-in_err-header.result c.from_residual-in_err-header.ensures.1 in
+    let word = c.in_ok-word.ensures in
     p.1 ∙ ap Err p.2
-    ∙ of_message c.args.bytes.now c.in-ok-word.word.bytes c.message.result.bytes (Err c.in-err-header.field-0.0)
-    word.0 word.1 c.in-default.ensures.row c.message.ensures c.in-err-header.ensures.answer
+    ∙ of_message c.args.bytes.now c.in_ok-word.word.bytes c.message.result.bytes (Err c.in_err-header.field-0.0)
+    word.0 word.1 c.in_default.ensures.row c.message.ensures c.in_err-header.ensures.answer

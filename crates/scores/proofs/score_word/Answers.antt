@@ -22,9 +22,9 @@ loop-i-preserved c =
     let h : i < length xs = omega arith in
     let l : i < length bs = omega (arith, length_bits w.bytes, w.long) in
     let p : mul binary32 d d ≡ square x (get_or bs i 0) =
-    ap (λ d. mul binary32 d d) (c.distance-d.ensures ∙ ap (distance x) c.word-bit.ensures) in (
+    ap (λ d. mul binary32 d d) (c.distance-d.ensures ∙ ap (distance x) c.word_bit.ensures) in (
       folded_squares_more (add binary32) float_zero xs bs i c.loop-i.sum (mul binary32 d d) h l c.loop-i.invariant.0 p,
-      c.max-largest.ensures.value
+      c.larger-largest.ensures
           ∙ folded_squares_more float_max float_zero xs bs i c.loop-i.largest (mul binary32 d d) h l c.loop-i.invariant.1 p,
     )
 

@@ -27,14 +27,14 @@ pub loop-place-preserved : goal.loop-place-preserved
 loop-place-preserved c =
     let w : ℕ → Float = λ k. get_or c.args.weak.now k nan in
     let k = c.loop-place.place in (
-      c.with-place-two.ensures.same ∙ ap (with_place w k) c.loop-place.invariant.0 ∙ scan_more w k (omega arith),
-      c.with-place-two.ensures.inside.0,
-      c.with-place-two.ensures.inside.1,
+      c.with_place-two.ensures.same ∙ ap (with_place w k) c.loop-place.invariant.0 ∙ scan_more w k (omega arith),
+      c.with_place-two.ensures.inside.0,
+      c.with_place-two.ensures.inside.1,
     )
 
 pub returns : goal.returns
 returns c =
     let w : ℕ → Float = λ k. get_or c.args.weak.now k nan in
     let all : c.loop-place.place ≡ 162 = omega arith in
-    let is = c.lower-first.ensures ∙ ap lower_first (c.loop-place.invariant.0 ∙ ap (λ k. weakest_below w (k - 2)) all) in
+    let is = c.lower_first.ensures ∙ ap lower_first (c.loop-place.invariant.0 ∙ ap (λ k. weakest_below w (k - 2)) all) in
     subst⁻¹ (WeakestPair w) is (scan_weakest w c.requires)

@@ -7,21 +7,21 @@ use Rattle.weakness.specs.Weakness.{weakness, Size}
 use Rattle.weakness.proofs.Sizes.{weakest_is, weakest_same, weakness_least, weakness_sizes}
 use Rattle.weakness.proofs.two_weakest.Goals as goal
 
-pub two-least-requires : goal.two-least-requires
-two-least-requires c =
+pub two_least-requires : goal.two_least-requires
+two_least-requires c =
     let xs = c.args.levels.now in
-    let legal = legal_levels 972 xs c.in-ok-examine.ensures in
+    let legal = legal_levels 972 xs c.in_ok-examine.ensures in
     λ k h. subst Size (sym (c.weaknesses.ensures k h)) (weakness_sizes xs legal k h)
 
 pub returns : goal.returns
 returns c =
     let xs = c.args.levels.now in
-    let none = c.in-ok-examine.ensures in
+    let none = c.in_ok-examine.ensures in
     let legal = legal_levels 972 xs none in
     let w : ℕ → Float = λ k. get_or c.weaknesses.result k nan in
-    let pair = weakest_same w (weakness xs) c.weaknesses.ensures c.two-least.result c.two-least.ensures in
+    let pair = weakest_same w (weakness xs) c.weaknesses.ensures c.two_least.result c.two_least.ensures in
     record {
-      places = (weakest_is xs legal c.two-least.result pair, ap (option_map Levels) none);
+      places = (weakest_is xs legal c.two_least.result pair, ap (option_map Levels) none);
       weakest = pair;
       least = weakness_least xs legal;
     }

@@ -6,5 +6,5 @@ loop-place-preserved c = (
   simp length-set (omega arith),
   below_more _ _
       (λ k h. let ne : k ≢ c.loop-place.place = omega arith in rw get_or-set_other (c.loop-place.invariant.1 k h))
-      (let lt : c.loop-place.place < length c.loop-place.of-place-items = omega arith in rw get_or-set_same c.weakness-at.ensures),
+      (let lt : c.loop-place.place < length c.loop-place.of_place-items = omega arith in rw get_or-set_same c.weakness_at.ensures),
 )

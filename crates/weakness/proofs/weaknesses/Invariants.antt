@@ -5,4 +5,4 @@ use Rattle.weakness.proofs.weaknesses.Given as goal
 
 abbrev pub invariant-loop-place : goal.invariant-loop-place
 invariant-loop-place l =
-    (length l.of-place-items ≡ 162) × ((k : ℕ) → k < l.place → get_or l.of-place-items k nan ≡ weakness l.levels k)
+    (length l.of_place-items ≡ 162) × ((k : ℕ) → k < l.place → get_or l.of_place-items k nan ≡ weakness l.levels k)

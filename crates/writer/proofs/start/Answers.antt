@@ -8,22 +8,17 @@ use Rattle.written.proofs.Drafts.{started_second}
 use Rattle.writer.proofs.Drafting.{drafted, startable}
 use Rattle.writer.proofs.start.Goals as goal
 
-pub invariant-of-result : goal.invariant-of-result
-invariant-of-result c =
-    let k = startable _ c.args.number c.args.second c.requires in
-    let ss = c.begin.new.symbols in
-    let d = subst⁻¹ (λ (t : MessageType). Drafted t (replicate 12 false) (take 81 ss)) c.type-of-message-type.ensures
-    (drafted _ c.args.number c.args.second ss k c.begin.ensures.bits) in
-    (c.begin.ensures.symbols.long, (c.begin.ensures.symbols.small, (d.apart, (d.numbered, (d.second, (d.ranges, tt))))))
-
 pub returns : goal.returns
 returns c =
     let k = startable _ c.args.number c.args.second c.requires in
     record {
       holds = c.begin.ensures.bits;
-      of = (k.typed ∙ ap Some (sym c.type-of-message-type.ensures), refl);
+      of = (k.typed ∙ ap Some (sym c.type_of-message_type.ensures), refl);
       second =
           started_second c.args.number c.args.second (take 81 c.begin.new.symbols) k.second
           (bits_take 81 c.begin.new.symbols ∙ ap (take 486) c.begin.ensures.bits);
+      drafted =
+          subst⁻¹ (λ (t : MessageType). Drafted t (replicate 12 false) (take 81 c.begin.new.symbols)) c.type_of-message_type.ensures
+          (drafted _ c.args.number c.args.second c.begin.new.symbols k c.begin.ensures.bits);
       same = refl;
     }

@@ -19,9 +19,9 @@ returns-then-tells c =
     let q = c.args.other in
     let r = c.loop-row.row in
     let e =
-    quotient c.product.result c.inverse.result c.factor-at.result (factor_of bcnav3 r p) c.row-sum.result
-    (row_sum bcnav3 r w.bytes) (c.product.ensures.same c.inverse.ensures.below c.row-sum.ensures.below)
-    (c.inverse.ensures.same c.factor-at.ensures.below) c.factor-at.ensures.same c.row-sum.ensures.same in
+    quotient c.product.result c.inverse.result c.factor_at.result (factor_of bcnav3 r p) c.row_sum.result
+    (row_sum bcnav3 r w.bytes) (c.product.ensures.same c.inverse.ensures.below c.row_sum.ensures.below)
+    (c.inverse.ensures.same c.factor_at.ensures.below) c.factor_at.ensures.same c.row_sum.ensures.same in
     record {
       solves = subst⁻¹ (λ (x : ℕ). Solves bcnav3 w.bytes p q x) e
           (row_solves bcnav3 sound w.bytes (record { long = w.long; small = w.small }) p q r (omega (arith, rows_81)) (c.if-tells.ensures.0 refl));

@@ -9,9 +9,9 @@ returns c =
     let w = c.args.candidate.now.bytes in
     let p = c.args.place in
     let x = c.args.change in
-    let e = c.alter.ensures.same c.requires.1 in
+    let e = c.alter.ensures.same c.requires.change_bound in
     record {
-      made = e ∙ sym (trial_at w p x c.requires.0 c.requires.1);
+      made = e ∙ sym (trial_at w p x c.requires.change_nonzero c.requires.change_bound);
       back = ap (λ u. altered u p x) e ∙ altered_twice w p x;
-      tells = c.is-codeword.ensures;
+      tells = c.is_codeword.ensures;
     }

@@ -4,9 +4,9 @@ use Rattle.parity.specs.Code.{SymbolList}
 use Rattle.parity.proofs.Codewords.{take_symbols}
 use Rattle.parity.proofs.Symbols+162.message.Goals as goal
 
-pub invariant-of-result : goal.invariant-of-result
-invariant-of-result c =
+pub invariant_of-result : goal.invariant_of-result
+invariant_of-result c =
     let w = c.args.self.now in
-    let s = subst⁻¹ (λ (l : List ℕ). SymbolList 81 l) c.copy-from-slice.ensures.after
+    let s = subst⁻¹ (λ (l : List ℕ). SymbolList 81 l) c.copy_from_slice.ensures.after
     (take_symbols w.bytes (record { long = w.long; small = w.small })) in
-    (s.long, (s.small, tt))
+    record { long = s.long; small = s.small }

@@ -13,14 +13,15 @@ returns-then-b-gt63 g c =
     by_byte g.row.N w (Some c.loop-i.i) l
     (first_at (is_symbol w) g.row.N c.loop-i.i (omega arith) c.loop-i.invariant (search rules))
 
-pub invariant-of-result : goal.invariant-of-result
-invariant-of-result g c =
+pub invariant_of-result : goal.invariant_of-result
+invariant_of-result g c =
     let w = c.args.bytes.now in
     let l : length w ≡ g.row.N = c.in-Ok.ensures.1.long in
-    let same : c.in-Ok.copy ≡ w = c.in-Ok.ensures.1.same in (
-      ap length same ∙ l,
-      (λ k. subst⁻¹ (λ (v : List ℕ). get_or v k 0 < 64) same (all_small w g.row.N l (λ j h. c.loop-i.invariant j (omega arith)) k), tt),
-    )
+    let same : c.in-Ok.copy ≡ w = c.in-Ok.ensures.1.same in
+    record {
+      long = ap length same ∙ l;
+      small = λ k. subst⁻¹ (λ (v : List ℕ). get_or v k 0 < 64) same (all_small w g.row.N l (λ j h. c.loop-i.invariant j (omega arith)) k);
+    }
 
 pub returns : goal.returns
 returns g c =

@@ -9,7 +9,7 @@ pub loop-k-init : goal.loop-k-init
 loop-k-init c =
     let w : ℕ → ℕ = sym_at c.args.word.now in (
       c.product-last.ensures.below,
-      c.product-last.ensures.same (lit< tt) c.once-round.ensures.below ∙ ap (mul 34) c.once-round.ensures.same
+      c.product-last.ensures.same (lit< tt) c.once_round.ensures.below ∙ ap (mul 34) c.once_round.ensures.same
           ∙ sym (start_is w) ∙ sym (run_zero w (start w)),
       filled_none c.args.word.now c.requires,
     )
@@ -26,7 +26,7 @@ loop-k-preserved c =
     ∙ ap (next k w) c.loop-k.invariant.1 ∙ sym (run_suc w (start w) k) in (
       c.next-last.ensures.below,
       e ∙ ap (run w (start w)) (sym (add-one k)),
-      subst₂ (λ (q n : ℕ). FilledTo n w (set v q x)) (sym c.place-of.ensures.same) (sym (add-one k))
+      subst₂ (λ (q n : ℕ). FilledTo n w (set v q x)) (sym c.place_of.ensures.same) (sym (add-one k))
           (filled_more w v k x c.loop-k-test.true f c.next-last.ensures.below e),
     )
 

@@ -13,9 +13,9 @@ returns c =
     let r = c.args.r in
     let e =
     ap₂ bit_xor (ap₂ bit_xor c.term.ensures c.term-2.ensures) (ap₂ bit_xor c.term-3.ensures c.term-4.ensures)
-    ∙ sym (row_terms r c.requires.1 (sym_at w)) in
+    ∙ sym (row_terms r c.requires.r_bound (sym_at w)) in
     record {
       same = e;
       below = subst⁻¹ (λ (x : ℕ). x < 64) e
-          (weighted_lt (places_of bcnav3 r) (factors_of bcnav3 r) (sym_at w) c.requires.0.small (row_sound r c.requires.1).nonzero);
+          (weighted_lt (places_of bcnav3 r) (factors_of bcnav3 r) (sym_at w) c.requires.symbol_list.small (row_sound r c.requires.r_bound).nonzero);
     }

@@ -5,4 +5,4 @@ use Rattle.parity.proofs.table.place.Goals as goal
 
 pub returns : goal.returns
 unfolding places
-returns c = record { same = refl; below = place_lt c.args.r c.args.j c.requires.0 c.requires.1 }
+returns c = record { same = refl; below = place_lt c.args.r c.args.j c.requires.r_bound c.requires.j_bound }

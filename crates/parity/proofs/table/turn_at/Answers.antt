@@ -9,6 +9,6 @@ returns c =
     let s = sides c.args.k c.requires in
     record { same = refl; row = row_lt c.args.k c.requires; slots = (omega (arith, s.high), omega (arith, s.sum, s.low)) }
 
-pub overflow-sub-result : goal.overflow-sub-result
+pub overflow_sub-result : goal.overflow_sub-result
 unfolding ring
-overflow-sub-result c = omega (arith, (sides c.args.k c.requires).high)
+overflow_sub-result c = omega (arith, (sides c.args.k c.requires).high)

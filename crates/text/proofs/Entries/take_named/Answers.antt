@@ -80,22 +80,22 @@ returns-then-is c =
     let d = c.held-item.result in
     let n = c.args.name in
     let g = get_or xs i d in
-    let os = c.deref-mut-held-items.result.now in
+    let os = c.deref_mut-held-items.result.now in
     let here : i < length xs = search rules in
     let fits : SFits w64 g.count = search rules in
     let name : named n g ≡ true =
-    is_named c.as-str.result.now (string_bytes g.name) (written n) c.is.result true
-    c.as-str.ensures.value c.is.ensures c.if-is.true in
+    is_named c.as_str.result.now (string_bytes g.name) (written n) c.is.result true
+    c.as_str.ensures.value c.is.ensures c.if-is.true in
     record {
       value =
           ap given (to_z-of_z w64 g.count fits)
           ∙ found_here n os xs i d here name c.loop-held.invariant
-          ∙ ap (counted n) c.deref-mut-held-items.ensures.value;
+          ∙ ap (counted n) c.deref_mut-held-items.ensures.value;
       after =
           take_at (set xs i (as_used g)) _ _
-          (length-set xs i (as_used g) ∙ c.loop-held.auto.held_items ∙ c.deref-mut-held-items.ensures.len)
+          (length-set xs i (as_used g) ∙ c.loop-held.auto.held_items ∙ c.deref_mut-held-items.ensures.len)
           ∙ used_here n os xs i d here name c.loop-held.invariant
-          ∙ ap (marked n) c.deref-mut-held-items.ensures.value;
+          ∙ ap (marked n) c.deref_mut-held-items.ensures.value;
     }
 
 pub loop-held-preserved : goal.loop-held-preserved
@@ -103,9 +103,9 @@ loop-held-preserved c =
     let xs = c.loop-held.held_items in
     let i = c.loop-held.held-index in
     let g = get_or xs i c.held-item.result in
-    walk_on c.args.name c.deref-mut-held-items.result.now xs i c.held-item.result (search rules)
-    (is_named c.as-str.result.now (string_bytes g.name) (written c.args.name) c.is.result false
-    c.as-str.ensures.value c.is.ensures c.if-is.false)
+    walk_on c.args.name c.deref_mut-held-items.result.now xs i c.held-item.result (search rules)
+    (is_named c.as_str.result.now (string_bytes g.name) (written c.args.name) c.is.result false
+    c.as_str.ensures.value c.is.ensures c.if-is.false)
     c.loop-held.invariant
 
 pub returns : goal.returns
@@ -113,12 +113,12 @@ returns c =
     let xs = c.loop-held.held_items in
     let i = c.loop-held.held-index in
     let n = c.args.name in
-    let os = c.deref-mut-held-items.result.now in
+    let os = c.deref_mut-held-items.result.now in
     let past : length xs ≤ i = search rules in
     record {
-      value = missing n os xs i past c.loop-held.invariant ∙ ap (counted n) c.deref-mut-held-items.ensures.value;
+      value = missing n os xs i past c.loop-held.invariant ∙ ap (counted n) c.deref_mut-held-items.ensures.value;
       after =
-          take_at xs _ _ (c.loop-held.auto.held_items ∙ c.deref-mut-held-items.ensures.len)
+          take_at xs _ _ (c.loop-held.auto.held_items ∙ c.deref_mut-held-items.ensures.len)
           ∙ unmarked n os xs i past c.loop-held.invariant
-          ∙ ap (marked n) c.deref-mut-held-items.ensures.value;
+          ∙ ap (marked n) c.deref_mut-held-items.ensures.value;
     }

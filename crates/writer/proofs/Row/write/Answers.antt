@@ -37,7 +37,7 @@ returns-in-Err g c =
     let b = g.K.Block in
     let e = c.in-Err.ensures in
     record {
-      answer = ap Err c.of-block.ensures ∙ answer b.site (b.counts c.args.of.now) _ _ c.requires e.answer;
+      answer = ap Err c.of_block.ensures ∙ answer b.site (b.counts c.args.of.now) _ _ c.requires e.answer;
       writes = e.kept refl;
       long = search rules;
       small = e.small;

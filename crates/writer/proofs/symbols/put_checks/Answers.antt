@@ -6,5 +6,5 @@ pub unreachable-requires : goal.unreachable-requires
 unreachable-requires c =
     let ss = c.args.symbols.now in
     let none = of_symbols 81 _ (take_symbols ss c.requires) in
-    let some = c.in-default.ensures in
+    let some = c.in_default.ensures in
     let z : ◌≡◌ {A = ℕ} 0 1 = cc in omega arith

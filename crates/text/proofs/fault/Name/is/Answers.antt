@@ -29,23 +29,23 @@ never P not = (search rules, search rules)
 undotted : (s b t f : List ℕ) → s ≡ b ++ t → ((rest : List ℕ) → t ≡ 46 ∷ rest → ⊥) → Decides false (s ≡ b ++ (46 ∷ f))
 undotted s b t f e not = never (s ≡ b ++ (46 ∷ f)) (λ k. not f (append_cancel_left b t (46 ∷ f) (sym e ∙ k)))
 
-pub returns-in-Some-strip-prefix : goal.returns-in-Some-strip-prefix
-returns-in-Some-strip-prefix c =
+pub returns-in-Some-strip_prefix : goal.returns-in-Some-strip_prefix
+returns-in-Some-strip_prefix c =
     let s = c.args.text.now in
     let b = c.in-Field.block.now in
     let f = c.in-Field.field.now in
     let t = c.in-Some.rest.now in
-    let u = c.in-Some-strip-prefix.rest in
-    subst (λ (n : Name). Decides c.eq-in-Some-strip-prefix.result (s ≡ written n)) (sym c.in-Field.is)
-    (dotted s b t u.now f c.eq-in-Some-strip-prefix.result (stripped s b t c.in-Some.ensures.cases)
-    (strip_prefix_char 46 t (Some u) c.in-Some-strip-prefix.ensures.cases (omega arith))
-    c.eq-in-Some-strip-prefix.ensures)
+    let u = c.in-Some-strip_prefix.rest in
+    subst (λ (n : Name). Decides c.eq-in-Some-strip_prefix.result (s ≡ written n)) (sym c.in-Field.is)
+    (dotted s b t u.now f c.eq-in-Some-strip_prefix.result (stripped s b t c.in-Some.ensures.cases)
+    (strip_prefix_char 46 t (Some u) c.in-Some-strip_prefix.ensures.cases (omega arith))
+    c.eq-in-Some-strip_prefix.ensures)
 
-pub returns-in-None-strip-prefix : goal.returns-in-None-strip-prefix
-returns-in-None-strip-prefix c =
+pub returns-in-None-strip_prefix : goal.returns-in-None-strip_prefix
+returns-in-None-strip_prefix c =
     let s = c.args.text.now in
     let b = c.in-Field.block.now in
     let t = c.in-Some.rest.now in
     subst (λ (n : Name). Decides false (s ≡ written n)) (sym c.in-Field.is)
     (undotted s b t c.in-Field.field.now (stripped s b t c.in-Some.ensures.cases)
-    (strip_prefix_char 46 t None c.in-None-strip-prefix.ensures.cases (omega arith)))
+    (strip_prefix_char 46 t None c.in-None-strip_prefix.ensures.cases (omega arith)))
