@@ -75,7 +75,7 @@ given z = Ok z
 
 pub returns-then-is : goal.returns-then-is
 returns-then-is c =
-    let xs = c.loop-held.held_items in
+    let xs = c.loop-held.held-items in
     let i = c.loop-held.held-index in
     let d = c.held-item.result in
     let n = c.args.name in
@@ -93,14 +93,14 @@ returns-then-is c =
           ∙ ap (counted n) c.deref_mut-held-items.ensures.value;
       after =
           take_at (set xs i (as_used g)) _ _
-          (length-set xs i (as_used g) ∙ c.loop-held.auto.held_items ∙ c.deref_mut-held-items.ensures.len)
+          (length-set xs i (as_used g) ∙ c.loop-held.auto.held-items ∙ c.deref_mut-held-items.ensures.len)
           ∙ used_here n os xs i d here name c.loop-held.invariant
           ∙ ap (marked n) c.deref_mut-held-items.ensures.value;
     }
 
 pub loop-held-preserved : goal.loop-held-preserved
 loop-held-preserved c =
-    let xs = c.loop-held.held_items in
+    let xs = c.loop-held.held-items in
     let i = c.loop-held.held-index in
     let g = get_or xs i c.held-item.result in
     walk_on c.args.name c.deref_mut-held-items.result.now xs i c.held-item.result (search rules)
@@ -110,7 +110,7 @@ loop-held-preserved c =
 
 pub returns : goal.returns
 returns c =
-    let xs = c.loop-held.held_items in
+    let xs = c.loop-held.held-items in
     let i = c.loop-held.held-index in
     let n = c.args.name in
     let os = c.deref_mut-held-items.result.now in
@@ -118,7 +118,7 @@ returns c =
     record {
       value = missing n os xs i past c.loop-held.invariant ∙ ap (counted n) c.deref_mut-held-items.ensures.value;
       after =
-          take_at xs _ _ (c.loop-held.auto.held_items ∙ c.deref_mut-held-items.ensures.len)
+          take_at xs _ _ (c.loop-held.auto.held-items ∙ c.deref_mut-held-items.ensures.len)
           ∙ unmarked n os xs i past c.loop-held.invariant
           ∙ ap (marked n) c.deref_mut-held-items.ensures.value;
     }

@@ -1,6 +1,8 @@
 use Rattle.std.proofs.Common.{◌≡◌, ℕ, ◌+◌, Bool, true, false, List, [], ◌∷◌, ◌++◌, length, drop, Some, None, Decides, sym, ap, ◌∙◌, subst, arith, rules}
+use Rattle.std.proofs.lemmas.Bool.Decides.{Decides-at}
 use Rattle.std.proofs.lemmas.List.{append_cancel_left}
 use Rattle.std.proofs.lemmas.Str.Pattern.{strip_prefix_char}
+use Rattle.std.specs.Cmp.Lexicographic.{bytes_decides}
 use Rattle.std.specs.Str.{IsCharBoundary}
 use Rattle.text.specs.declared.fault.Name.{Name}
 use Rattle.text.specs.Names.{written}
@@ -39,7 +41,7 @@ returns-in-Some-strip_prefix c =
     subst (λ (n : Name). Decides c.eq-in-Some-strip_prefix.result (s ≡ written n)) (sym c.in-Field.is)
     (dotted s b t u.now f c.eq-in-Some-strip_prefix.result (stripped s b t c.in-Some.ensures.cases)
     (strip_prefix_char 46 t (Some u) c.in-Some-strip_prefix.ensures.cases (omega arith))
-    c.eq-in-Some-strip_prefix.ensures)
+    (Decides-at c.eq-in-Some-strip_prefix.result _ c.eq-in-Some-strip_prefix.ensures (bytes_decides u.now f)))
 
 pub returns-in-None-strip_prefix : goal.returns-in-None-strip_prefix
 returns-in-None-strip_prefix c =
