@@ -5,6 +5,7 @@ use Rattle.std.proofs.lemmas.Bool.{and_parts, both_ways, eq-eqb, not-true}
 use Rattle.std.specs.List.{AllByRecursion}
 use Rattle.blocks.specs.Held.{held_in, placed_of}
 use Rattle.blocks.specs.Read.{read_as}
+use Rattle.blocks.specs.Numbered.{Numbered}
 use Rattle.blocks.specs.Stands.{Stands}
 use Rattle.blocks.specs.Write.{first_unfit}
 use Rattle.blocks.specs.declared.place.Place.{Place}
@@ -18,7 +19,7 @@ use Rattle.parity.specs.Code.{Encodes}
 use Rattle.parity.specs.Table.{bcnav3}
 use Rattle.writer.specs.Answers.{by_field, is_block_of, put_answer, seal_answer, start_answer}
 use Rattle.writer.specs.declared.fault.WriterFault.{WriterFault}
-use Rattle.written.specs.Drafted.{PutInto, SealedAs}
+use Rattle.written.specs.Drafted.{Drafted, PutInto, SealedAs}
 use Rattle.written.specs.Written.{LawfulAs}
 use Rattle.compose.specs.Composed.{Filled, Stepped, Word, ask_all, in_turn, write_answer}
 use Rattle.compose.specs.Contents.{Counted, Reads, all_counts_of, kind_of}
@@ -60,6 +61,7 @@ unlike n (x ∷ xs) = not (eqb x.0.number n) && unlike n xs
 pub record Held (t : MessageType) (m : List ℕ) (x : Counted) : Type 0 where
   pub size : ℕ
   pub stands : Stands x.0 size
+  pub numbered : Numbered x.0
   pub typed : x.0.message_type ≡ t
   pub counts : held_in x.0 m ≡ x.1
 
@@ -68,6 +70,7 @@ pub record Partly (t : MessageType) (s : ℕ) (xs : List Counted) (kind : Messag
   pub typed : kind ≡ t
   pub marks : done ≡ marked xs
   pub second : number_at m 6 20 ≡ s
+  pub drafted : Drafted kind done m
   pub held : AllByRecursion (Held t m) xs
 
 still : (p : Place) (zs : List ℤ) (m v : List ℕ) → PutInto p zs m v → (xs : List Counted) → unlike p.number xs ≡ true
@@ -78,7 +81,13 @@ still p zs m v i (x ∷ xs) u a =
     let h = a.0 in
     let differs : x.0.number ≢ p.number =
     λ e. both_ways (eqb x.0.number p.number) (not-true (eqb x.0.number p.number) w.0) (eq-eqb x.0.number p.number e) in (
-      record { size = h.size; stands = h.stands; typed = h.typed; counts = i.others x.0 h.size h.stands h.typed differs ∙ h.counts },
+      record {
+        size = h.size;
+        stands = h.stands;
+        numbered = h.numbered;
+        typed = h.typed;
+        counts = i.others x.0 h.size h.stands h.numbered h.typed differs ∙ h.counts;
+      },
       still p zs m v i xs w.1 a.1,
     )
 
@@ -88,18 +97,20 @@ answers_yes t done p zs b d f = rw (b, d, f)
 
 -- one block more
 pub step : (p : Place) (size : ℕ) (zs : List ℤ) (s : ℕ) (xs : List Counted) (k k' : MessageType) (done done' : List Bool) (m m' : List ℕ)
-    → Partly p.message_type s xs k done m → Stepped p size zs k done m k' done' m' → is_block_of p.message_type p ≡ true
+    → Numbered p → Partly p.message_type s xs k done m → Stepped p size zs k done m k' done' m' → is_block_of p.message_type p ≡ true
     → get_or (marked xs) p.number false ≡ false → unlike p.number xs ≡ true → first_unfit (placed_of p) zs ≡ None
     → Partly p.message_type s ((p, zs) ∷ xs) k' done' m'
-step p size zs s xs k k' done done' m m' h e b d u f =
+step p size zs s xs k k' done done' m m' n h e b d u f =
     let ready : put_answer k done p zs ≡ Ok tt =
     answers_yes k done p zs (ap (λ (t : MessageType). is_block_of t p) h.typed ∙ b) (ap (λ (l : List Bool). get_or l p.number false) h.marks ∙ d) f in
     let q = e.puts ready in
+    let i = q.1 n in
     record {
       typed = e.typed ∙ h.typed;
       marks = q.0 ∙ ap (λ (l : List Bool). set l p.number true) h.marks;
-      second = q.1.second ∙ h.second;
-      held = (record { size = size; stands = e.stands; typed = refl; counts = q.1.holds }, still p zs m m' q.1 xs u h.held);
+      second = i.second ∙ h.second;
+      drafted = e.drafted n h.drafted;
+      held = (record { size = size; stands = e.stands; numbered = n; typed = refl; counts = i.holds }, still p zs m m' i xs u h.held);
     }
 
 -- a block of the lawful message that the draft m is sealed to
@@ -113,8 +124,8 @@ some_same a b e = cc
 
 -- a draft without a block
 pub begun : (t : MessageType) (n s : ℕ) (k : MessageType) (done : List Bool) (m : List ℕ) → type_of n ≡ Some k → type_of n ≡ Some t → done ≡ replicate 12 false
-    → number_at m 6 20 ≡ s → Partly t s [] k done m
-begun t n s k done m a b d e = record { typed = some_same k t (sym a ∙ b); marks = d; second = e; held = tt }
+    → number_at m 6 20 ≡ s → Drafted k done m → Partly t s [] k done m
+begun t n s k done m a b d e f = record { typed = some_same k t (sym a ∙ b); marks = d; second = e; drafted = f; held = tt }
 
 -- a draft with blocks that leave none missing
 pub none_left : (t : MessageType) (s : ℕ) (xs : List Counted) (k : MessageType) (done : List Bool) (m : List ℕ) → Partly t s xs k done m

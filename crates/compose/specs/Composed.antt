@@ -1,6 +1,7 @@
 -- What is answered to who composes a frame, and what word and frame then hold.
 use Rattle.std.specs.Prelude.{◌≡◌, ℕ, Bool, true, List, [], ◌∷◌, take, ℤ, Ok, Err, Result, slice_set}
 use Rattle.blocks.specs.Held.{placed_of}
+use Rattle.blocks.specs.Numbered.{Numbered}
 use Rattle.blocks.specs.Stands.{Stands}
 use Rattle.blocks.specs.Write.{first_unfit}
 use Rattle.blocks.specs.declared.place.Place.{Place}
@@ -14,7 +15,7 @@ use Rattle.parity.specs.Code.{Encodes}
 use Rattle.parity.specs.Table.{bcnav3}
 use Rattle.writer.specs.Answers.{by_field, put_answer, seal_answer, start_answer}
 use Rattle.writer.specs.declared.fault.WriterFault.{WriterFault}
-use Rattle.written.specs.Drafted.{PutInto, SealedAs}
+use Rattle.written.specs.Drafted.{Drafted, PutInto, SealedAs}
 use Rattle.written.specs.Written.{LawfulAs}
 use Rattle.compose.specs.Contents.{Counted, Reads, all_counts_of, kind_of}
 use Rattle.compose.specs.declared.fault.ComposeFault.{ComposeFault}
@@ -62,12 +63,14 @@ pub record Stepped (p : Place) (size : ℕ) (zs : List ℤ) (t : MessageType) (d
     : Type 0 where
   pub stands : Stands p size
   pub typed : t' ≡ t
-  pub puts : put_answer t done p zs ≡ Ok tt → (done' ≡ slice_set done p.number true) × PutInto p zs m m'
+  pub puts : put_answer t done p zs ≡ Ok tt → (done' ≡ slice_set done p.number true) × (Numbered p → PutInto p zs m m')
+  pub drafted : Numbered p → Drafted t done m → Drafted t' done' m'
 
 -- a draft of the records with every block, at the second s
 pub record Filled (r : Records) (s : ℕ) (t : MessageType) (done : List Bool) (m : List ℕ) : Type 0 where
   pub typed : t ≡ kind_of r
   pub second : number_at m 6 20 ≡ s
+  pub drafted : Drafted t done m
   pub full : seal_answer t done ≡ Ok tt
   -- and so it stays for whoever reads the lawful message that is made of it
   pub reads : (v : List ℕ) → SealedAs (kind_of r) m v → Reads r v

@@ -10,14 +10,15 @@ use Rattle.compose.proofs.draft_10.Goals as goal
 pub returns : goal.returns
 returns c =
     let fit = all_fit (length c.args.buffer.now) c.args.second (Type10 c.args.records.now) c.requires in
-    let p0 = begun Kind10 10 _ _ _ _ c.start-draft.ensures.of.0 refl c.start-draft.ensures.of.1 c.start-draft.ensures.second in
-    let p1 = step _ _ _ _ _ _ _ _ _ _ _ p0 c.put.ensures.step refl refl refl fit.0 in
-    let p2 = step _ _ _ _ _ _ _ _ _ _ _ p1 c.put-2.ensures.step refl refl refl fit.1.0 in
-    let p3 = step _ _ _ _ _ _ _ _ _ _ _ p2 c.put-3.ensures.step refl refl refl fit.1.1.0 in
+    let p0 = begun Kind10 10 _ _ _ _ c.start-draft.ensures.of.0 refl c.start-draft.ensures.of.1 c.start-draft.ensures.second c.start-draft.ensures.drafted in
+    let p1 = step _ _ _ _ _ _ _ _ _ _ _ refl p0 c.put.ensures.step refl refl refl fit.0 in
+    let p2 = step _ _ _ _ _ _ _ _ _ _ _ refl p1 c.put-2.ensures.step refl refl refl fit.1.0 in
+    let p3 = step _ _ _ _ _ _ _ _ _ _ _ refl p2 c.put-3.ensures.step refl refl refl fit.1.1.0 in
     record {
       fills = record {
         typed = p3.typed;
         second = p3.second;
+        drafted = p3.drafted;
         full = none_left _ _ _ _ _ _ p3 refl;
         reads = λ v e. record {
           ephemeris1 = read_one _ _ v _ ephemeris1_record e p3.held.1.1.0;

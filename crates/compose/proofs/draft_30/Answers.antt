@@ -15,19 +15,20 @@ use Rattle.compose.proofs.draft_30.Goals as goal
 pub returns : goal.returns
 returns c =
     let fit = all_fit (length c.args.buffer.now) c.args.second (Type30 c.args.records.now) c.requires in
-    let p0 = begun Kind30 30 _ _ _ _ c.start-draft.ensures.of.0 refl c.start-draft.ensures.of.1 c.start-draft.ensures.second in
-    let p1 = step _ _ _ _ _ _ _ _ _ _ _ p0 c.put.ensures.step refl refl refl fit.0 in
-    let p2 = step _ _ _ _ _ _ _ _ _ _ _ p1 c.put-2.ensures.step refl refl refl fit.1.0 in
-    let p3 = step _ _ _ _ _ _ _ _ _ _ _ p2 c.put-3.ensures.step refl refl refl fit.1.1.0 in
-    let p4 = step _ _ _ _ _ _ _ _ _ _ _ p3 c.put-4.ensures.step refl refl refl fit.1.1.1.0 in
-    let p5 = step _ _ _ _ _ _ _ _ _ _ _ p4 c.put-5.ensures.step refl refl refl fit.1.1.1.1.0 in
-    let p6 = step _ _ _ _ _ _ _ _ _ _ _ p5 c.put-6.ensures.step refl refl refl fit.1.1.1.1.1.0 in
-    let p7 = step _ _ _ _ _ _ _ _ _ _ _ p6 c.put-7.ensures.step refl refl refl fit.1.1.1.1.1.1.0 in
-    let p8 = step _ _ _ _ _ _ _ _ _ _ _ p7 c.put-8.ensures.step refl refl refl fit.1.1.1.1.1.1.1.0 in
+    let p0 = begun Kind30 30 _ _ _ _ c.start-draft.ensures.of.0 refl c.start-draft.ensures.of.1 c.start-draft.ensures.second c.start-draft.ensures.drafted in
+    let p1 = step _ _ _ _ _ _ _ _ _ _ _ refl p0 c.put.ensures.step refl refl refl fit.0 in
+    let p2 = step _ _ _ _ _ _ _ _ _ _ _ refl p1 c.put-2.ensures.step refl refl refl fit.1.0 in
+    let p3 = step _ _ _ _ _ _ _ _ _ _ _ refl p2 c.put-3.ensures.step refl refl refl fit.1.1.0 in
+    let p4 = step _ _ _ _ _ _ _ _ _ _ _ refl p3 c.put-4.ensures.step refl refl refl fit.1.1.1.0 in
+    let p5 = step _ _ _ _ _ _ _ _ _ _ _ refl p4 c.put-5.ensures.step refl refl refl fit.1.1.1.1.0 in
+    let p6 = step _ _ _ _ _ _ _ _ _ _ _ refl p5 c.put-6.ensures.step refl refl refl fit.1.1.1.1.1.0 in
+    let p7 = step _ _ _ _ _ _ _ _ _ _ _ refl p6 c.put-7.ensures.step refl refl refl fit.1.1.1.1.1.1.0 in
+    let p8 = step _ _ _ _ _ _ _ _ _ _ _ refl p7 c.put-8.ensures.step refl refl refl fit.1.1.1.1.1.1.1.0 in
     record {
       fills = record {
         typed = p8.typed;
         second = p8.second;
+        drafted = p8.drafted;
         full = none_left _ _ _ _ _ _ p8 refl;
         reads = λ v e. record {
           week = read_one _ _ v _ week_record e p8.held.1.1.1.1.1.1.1.0;
