@@ -1,13 +1,13 @@
 #!/usr/bin/env python3
-"""Brings the names of this repository's definitions and lemmas to snake case.
+"""Brings the names of this repository's definitions and lemmas to today's spelling, after the kit's port.py has turned the rest.
 
 usage: tools/snake_names.py          in the repository: renames in every crate (once: a second run would rename again)
        tools/snake_names.py --list   prints what would be renamed, and names that fall together
 
 A name that a file of specs/ or proofs/ declares, or gives by `as`, in camel case or with dashes is written in snake case wherever it
 stands in specs/, proofs/ and the clauses of src/. Names of functions, types and modules, names that the check makes (as `returns` or
-`loop-i-init`) and the library's names stay, these also where a file of this repository declares the same name. RENAMED gives a word another name where its own would fall together with a function, a parameter or a word
-of the library.
+`loop-i-init`) and the library's names stay, these also where a file of this repository declares the same name. RENAMED gives a word
+another name where its own would fall together with another word of the repository.
 """
 import os
 import re
@@ -17,7 +17,10 @@ TOP = os.path.join(os.path.dirname(os.path.realpath(__file__)), "..")
 NAME = r"[^\s(){}\[\].,;:«»λ]+"
 DECLARES = re.compile(r"^(\s*)(?:(?:abbrev|unfoldable|pub)\s+)*(" + NAME + r")\s+:(?=\s|$)")
 CLAUSE = re.compile(r"^\s*(?:ghost\b|requires\b|ensures\b)")
-# where snake case alone would fall together with another name
+IMPORT = re.compile(r"^\s*(?:ghost\s+)?use\s+([^\s{}]+)\.\{([^}]*)\}")
+# a word of the library that is brought in under another of its words
+UNMASKED = {"AllByRecursion as All": ("All", "AllByRecursion")}
+# where snake case alone would fall together with another name, and a type
 RENAMED = {
     "First-bits": "FirstBits",
     "by-type": "by_type_lem",
@@ -36,9 +39,8 @@ RENAMED = {
 def snake(name):
     if name in RENAMED:
         return RENAMED[name]
-    name = name.replace("′", "'")
     parts = []
-    for part in name.split("-"):
+    for part in name.replace("′", "'").split("-"):
         part = re.sub(r"(?<=[a-z0-9])(?=[A-Z])", "_", part)
         part = re.sub(r"(?<=[A-Z])(?=[A-Z][a-z])", "_", part)
         parts.append(part.lower())
@@ -53,31 +55,60 @@ def files(end):
                 yield os.path.join(folder, n)
 
 
-def code(line):
-    return line.split("--")[0] if line.lstrip().startswith("--") else line
+def read(path):
+    with open(path, encoding="utf-8") as f:
+        return f.read()
 
 
 def declared():
     """The words and the record fields that files of specs/ and proofs/ declare."""
-    words, fields = {}, {}
+    words, fields = {"First-bits": {"crates/layout/specs/Laws.antt"}}, {}
     for path in files(".antt"):
-        kind = words
-        for line in open(path, encoding="utf-8"):
+        kind, depth_of_record = words, 0
+        for line in read(path).split("\n"):
+            depth = len(line) - len(line.lstrip())
             if re.match(r"\s*(pub\s+)?record\s", line):
-                inside = len(line) - len(line.lstrip())
-                kind = fields
+                kind, depth_of_record = fields, depth
                 continue
+            if kind is fields and line.strip() and not line.lstrip().startswith("--") and depth <= depth_of_record:
+                kind = words
+            place = os.path.relpath(path, TOP)
+            for given in re.findall(r"\bas ([a-z]" + NAME + ")", line) if IMPORT.match(line) else []:
+                words.setdefault(given, set()).add(place)
             m = DECLARES.match(line)
-            if line.strip() and not line.lstrip().startswith("--"):
-                depth = len(line) - len(line.lstrip())
-                if kind is fields and depth <= inside:
-                    kind = words
-            if not m or "goal." in line or line.lstrip().startswith(("--", "let ", "use ")):
-                continue
-            if not re.match(r"[a-z]", m.group(2)) and "-" not in m.group(2):
-                continue
-            kind.setdefault(m.group(2), set()).add(os.path.relpath(path, TOP))
+            if m and "goal." not in line and not line.lstrip().startswith(("--", "let ", "use ")):
+                if re.match(r"[a-z]", m.group(2)):
+                    kind.setdefault(m.group(2), set()).add(place)
     return words, fields
+
+
+def ours():
+    lines = [line.split("#")[0] for line in read(os.path.join(TOP, "crates.txt")).split("\n")]
+    return {line.split(":")[0].strip() for line in lines if ":" in line}
+
+
+def of_library(text, crates):
+    """The names that a file takes from the library."""
+    names = set()
+    for line in text.split("\n"):
+        m = IMPORT.match(line)
+        if m and not (m.group(1).startswith("Rattle.") and m.group(1).split(".")[1] in crates):
+            names |= {part.split(" as ")[-1].strip() for part in m.group(2).split(",")}
+    return names
+
+
+def turn(line, new, fields, kept):
+    token = re.compile(r"(\.?)(?<![^\s(){}\[\].,;:«»λ])(" + NAME + ")")
+
+    def one(m):
+        dot, name = m.group(1), m.group(2)
+        if name not in new or name in kept:
+            return m.group(0)
+        if dot and name not in fields and not re.search(r"\bRattle\.[\w.]*$", line[:m.start()]):
+            return m.group(0)
+        return dot + new[name]
+
+    return token.sub(one, line)
 
 
 def main():
@@ -85,33 +116,28 @@ def main():
     new = {}
     for group in (words, fields):
         for name in group:
-            if snake(name) != name and (name in RENAMED or not name[0].isupper()):
+            if snake(name) != name:
                 new[name] = snake(name)
     if "--list" in sys.argv[1:]:
         listing(words, fields, new)
         return
-    token = re.compile(r"(\.?)(?<![^\s(){}\[\].,;:«»λ])(" + NAME + ")")
-
-    def turn(text):
-        def one(m):
-            dot, name = m.group(1), m.group(2)
-            if name not in new or (dot and name not in fields and not re.search(r"\bRattle\.[\w.]*$", text[:m.start()])):
-                return m.group(0)
-            return dot + new[name]
-        return token.sub(one, text)
-
+    crates = ours()
     for end in (".antt", ".rt"):
         for path in files(end):
-            old = open(path, encoding="utf-8").read()
+            old = read(path)
+            text = old
+            for what, (short, whole) in UNMASKED.items():
+                if what in text:
+                    text = re.sub(r"(?<![\w-])" + short + r"(?![\w-])", whole, text).replace(whole + " as " + whole, whole)
+            kept = of_library(text, crates)
             lines = []
-            for line in old.split("\n"):
-                if line.lstrip().startswith("--") or (end == ".rt" and not CLAUSE.match(line)):
-                    lines.append(line)
-                else:
-                    lines.append(turn(line))
+            for line in text.split("\n"):
+                plain = line.lstrip().startswith("--") or (end == ".rt" and not CLAUSE.match(line))
+                lines.append(line if plain else turn(line, new, fields, kept))
             text = "\n".join(lines)
             if text != old:
-                open(path, "w", encoding="utf-8").write(text)
+                with open(path, "w", encoding="utf-8") as f:
+                    f.write(text)
 
 
 def listing(words, fields, new):
@@ -121,14 +147,8 @@ def listing(words, fields, new):
     for to, names in sorted(taken.items()):
         if len(names) > 1:
             print("fall together:", to, sorted(names))
-    rust = {}
-    for path in files(".rt"):
-        crate = os.path.relpath(path, TOP).split(os.sep)[1]
-        for m in re.finditer(r"\b(?:fn|let(?: mut)?|mod)\s+(\w+)|\b(\w+)\s*:\s", open(path, encoding="utf-8").read()):
-            rust.setdefault(m.group(1) or m.group(2), set()).add(crate)
     for name in sorted(new):
-        where = sorted({w for w in words.get(name, set()) | fields.get(name, set())})
-        print(name, "->", new[name], "in", ", ".join(where), "; also in code of: " + ", ".join(sorted(rust[new[name]])) if new[name] in rust else "")
+        print(name, "->", new[name], "in", ", ".join(sorted(words.get(name, set()) | fields.get(name, set()))))
 
 
 if __name__ == "__main__":

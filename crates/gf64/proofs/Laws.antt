@@ -1,5 +1,5 @@
 -- The laws of the field: some by a test over all symbols or pairs of symbols, the others from these.
-use Rattle.std.proofs.Common.{◌≡◌, ℕ, zero, suc, ◌+◌, ◌-◌, ◌/◌, ◌%◌, ◌<◌, ltb, ◌≢◌, get_or, sym, refl, ap, ◌∙◌, arith, lit<}
+use Rattle.std.proofs.Common.{◌≡◌, ℕ, zero, suc, ◌+◌, ◌-◌, ◌/◌, ◌%◌, ◌<◌, ltb, ◌≢◌, get_or, sym, refl, ap, ◌∙◌, lit<}
 use lib.Bits.{bit_xor, xor_assoc, xor_comm, xor_lt}
 use Rattle.std.proofs.lemmas.Bool.{ltb-true}
 use Rattle.gf64.specs.Field.{mul, mul_low, times_x, scaled, square, inv, logs, exps}

@@ -1,5 +1,5 @@
 -- Worked examples: products, the sums of row 0, CRCs, messages with their answers, and counts of fields.
-use Rattle.std.specs.Prelude.{◌≡◌, ℕ, ◌+◌, ◌-◌, ◌*◌, ◌/◌, ◌%◌, ◌^◌, true, List, [], ◌∷◌, map, set, replicate, ℤ, pos, negsuc, Ok, Err, Result, slice_index_or, slice_set}
+use Rattle.std.specs.Prelude.{◌≡◌, ℕ, ◌+◌, ◌-◌, ◌*◌, ◌/◌, ◌%◌, ◌^◌, true, List, [], ◌∷◌, map, replicate, ℤ, pos, negsuc, Ok, Err, Result, slice_index_or, slice_set}
 use Rattle.std.specs.List.{range_with_len}
 use Rattle.crc.specs.Crc.{crc_of_message}
 use Rattle.gf64.specs.Field.{mul}
@@ -18,7 +18,6 @@ use Rattle.parity.specs.Code.{row_sum, sym_at}
 use Rattle.parity.specs.Ring.{term}
 use Rattle.parity.specs.Table.{bcnav3}
 use Rattle.refusal.specs.declared.Layer.TheVariants.{Message as MessageLayer}
-use Rattle.refusal.specs.declared.Refusal.{Refusal}
 use Rattle.type30.specs.Eighths.{eighths_of}
 
 -- ---- words and messages to speak of

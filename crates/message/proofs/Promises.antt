@@ -1,8 +1,7 @@
 -- What the answer of a check promises.
-use Rattle.std.proofs.Common.{◌≡◌, ℕ, ◌<◌, Bool, true, false, List, length, take, is_ok, Some, None, Ok, Err, Decides, Option, Result, sym, refl, ap, ◌∙◌, subst, arith}
-use Rattle.std.proofs.lemmas.List.{length-take-le}
+use Rattle.std.proofs.Common.{◌≡◌, ℕ, Bool, true, false, List, take, is_ok, Some, None, Ok, Err, Decides, Option, Result, sym, refl, ap, ◌∙◌, subst, arith}
 use Rattle.parity.specs.Bytes.{symbol_fault, first_nonzero}
-use Rattle.parity.specs.Code.{SymbolList, Codeword, Encodes}
+use Rattle.parity.specs.Code.{Codeword, Encodes}
 use Rattle.parity.specs.Table.{bcnav3}
 use Rattle.parity.specs.declared.SymbolFault.{SymbolFault}
 use Rattle.parity.proofs.Codewords.{codeword_of, of_codeword, take_symbols}

@@ -1,12 +1,11 @@
 -- The check symbols round the ring: they make a code word of the message, and no others do.
-use Rattle.std.proofs.Common.{◌≡◌, ℕ, zero, suc, ◌+◌, ◌-◌, ◌<◌, ◌≤◌, Bool, true, ◌&&◌, eqb, ltb, leb, ◌≢◌, List, [], ◌∷◌, ◌++◌, map, length, get_or, set, sym, refl, ap, ◌∙◌, subst, ap₂, inl, inr, arith, lit<, lit≤}
-use mathlib.Core.Path.{subst⁻¹}
+use Rattle.std.proofs.Common.{◌≡◌, ℕ, zero, suc, ◌+◌, ◌-◌, ◌<◌, ◌≤◌, Bool, ◌&&◌, eqb, ltb, leb, ◌≢◌, List, [], ◌∷◌, length, get_or, set, sym, refl, ap, ◌∙◌, ap₂, inl, inr, arith, lit<, lit≤}
 use lib.Bits.{bit_xor, xor_assoc, xor_comm, xor_self, xor_zero_r}
 use Rattle.std.proofs.lemmas.List.{ext_get_or, get_or-set_same, get_or-set_other}
 use Rattle.std.proofs.lemmas.Bool.{and_parts, cases_eq, cases_lt, eqb-true, leb-true, ltb-true}
 use Rattle.gf64.specs.Field.{mul, mul_low, times_x, scaled, square, inv}
 use Rattle.computed.proofs.Below.{each, each2, less, same}
-use Rattle.gf64.proofs.Laws.{mul_lt, mul_comm, mul_assoc, mul_one, mul_zero, mul_xor_l, mul_xor_r, mul_inv, mul_inv_off, inv_lt, xor_small}
+use Rattle.gf64.proofs.Laws.{mul_lt, mul_comm, mul_assoc, mul_one, mul_xor_l, mul_xor_r, mul_inv, mul_inv_off, inv_lt, xor_small}
 use Rattle.parity.specs.Code.{SymbolList, Codeword, sym_at, weighted, row_sum}
 use Rattle.parity.specs.Table.{places, factors, bcnav3, place_at, factor_at}
 use Rattle.parity.specs.Ring.{ring, turn_at, from_place, to_place, from_factor, to_factor, term, message_sum, next, run, start}

@@ -1,14 +1,14 @@
 -- The table of B-CNAV3 is sound.
-use Rattle.std.proofs.Common.{◌≡◌, ℕ, suc, ◌+◌, ◌-◌, ◌<◌, ◌≤◌, List, [], ◌++◌, map, length, get_or, take, sym, refl, ap, ◌∙◌, inl, inr, arith, lit<, length-append}
+use Rattle.std.proofs.Common.{◌≡◌, ℕ, suc, ◌+◌, ◌-◌, ◌<◌, List, ◌++◌, map, length, get_or, sym, ap, ◌∙◌, inl, inr, arith, lit<, length-append}
 use mathlib.Core.Path.{subst⁻¹}
 use Rattle.std.proofs.lemmas.List.FromFn.{length-map-range_with_len, get_or-map-range_with_len}
 use Rattle.std.proofs.lemmas.List.{get_or_append_left, get_or-append_right, get_or_past, get_or-take, take_at}
 use Rattle.std.proofs.lemmas.Bool.{cases_lt}
 use Rattle.std.specs.List.{range_with_len}
-use Rattle.parity.specs.Code.{SymbolList, Codeword, Encodes, sym_at}
+use Rattle.parity.specs.Code.{SymbolList, Encodes, sym_at}
 use Rattle.parity.specs.Ring.{to_place, run, start}
-use Rattle.parity.specs.Sound.{OneCodeword, Sound}
-use Rattle.parity.specs.Table.{places, bcnav3}
+use Rattle.parity.specs.Sound.{Sound}
+use Rattle.parity.specs.Table.{bcnav3}
 use Rattle.parity.proofs.Ring.{FilledTo, filled_codeword, same_message, run_lt, start_lt, turn_to, turn_to_lem, turn_back, to_high, to_place_lt}
 use Rattle.parity.proofs.Rows.{row_sound, rows_81, two_rows, share_one}
 

@@ -1,5 +1,7 @@
 //! Ephemeris I: the shape of the orbit.
-ghost use Rattle.type10.specs.Ephemeris1Counts.{counts_of, place_of, record_of};
+ghost use Rattle.layout.specs.declared.MessageType.TheVariants.{Type10};
+ghost use Rattle.layout.specs.declared.Part.TheVariants.{Ephemeris1 as OfEphemeris1};
+ghost use Rattle.type10.specs.Ephemeris1Counts.{counts_of, record_of};
 ghost use Rattle.std.proofs.Math.Path.{◌≡◌};
 ghost use Rattle.std.specs.Prelude.{refl, ℕ};
 ghost use Rattle.std.proofs.Common.{arith, rules};
@@ -45,7 +47,7 @@ impl Block for Ephemeris1 {
 
     type Record = Ephemeris1Record;
 
-    ghost site = { place_of };
+    ghost site = { record { number = 1; message_type = Type10; part = OfEphemeris1; first_bit = 30; width = 203 } };
 
     ghost size = { 9 };
 

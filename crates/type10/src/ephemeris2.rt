@@ -1,5 +1,7 @@
 //! Ephemeris II: the place of the orbit, and its corrections.
-ghost use Rattle.type10.specs.Ephemeris2Counts.{counts_of, place_of, record_of};
+ghost use Rattle.layout.specs.declared.MessageType.TheVariants.{Type10};
+ghost use Rattle.layout.specs.declared.Part.TheVariants.{Ephemeris2 as OfEphemeris2};
+ghost use Rattle.type10.specs.Ephemeris2Counts.{counts_of, record_of};
 ghost use Rattle.std.proofs.Math.Path.{◌≡◌};
 ghost use Rattle.std.specs.Prelude.{refl, ℕ};
 ghost use Rattle.std.proofs.Common.{arith, rules};
@@ -47,7 +49,7 @@ impl Block for Ephemeris2 {
 
     type Record = Ephemeris2Record;
 
-    ghost site = { place_of };
+    ghost site = { record { number = 2; message_type = Type10; part = OfEphemeris2; first_bit = 233; width = 222 } };
 
     ghost size = { 10 };
 

@@ -1,5 +1,7 @@
 //! Integrity flags.
-ghost use Rattle.type10.specs.IntegrityCounts.{counts_of, place_of, record_of};
+ghost use Rattle.layout.specs.declared.MessageType.TheVariants.{Type10};
+ghost use Rattle.layout.specs.declared.Part.TheVariants.{Integrity as OfIntegrity};
+ghost use Rattle.type10.specs.IntegrityCounts.{counts_of, record_of};
 ghost use Rattle.std.proofs.Math.Path.{◌≡◌};
 ghost use Rattle.std.specs.Prelude.{refl, ℕ};
 ghost use Rattle.std.proofs.Common.{arith, rules};
@@ -35,7 +37,7 @@ impl Block for Integrity {
 
     type Record = IntegrityRecord;
 
-    ghost site = { place_of };
+    ghost site = { record { number = 3; message_type = Type10; part = OfIntegrity; first_bit = 455; width = 7 } };
 
     ghost size = { 4 };
 

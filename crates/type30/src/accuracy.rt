@@ -1,5 +1,7 @@
 //! Indices of the signal accuracy.
-ghost use Rattle.type30.specs.AccuracyCounts.{counts_of, place_of, record_of};
+ghost use Rattle.layout.specs.declared.MessageType.TheVariants.{Type30};
+ghost use Rattle.layout.specs.declared.Part.TheVariants.{Accuracy as OfAccuracy};
+ghost use Rattle.type30.specs.AccuracyCounts.{counts_of, record_of};
 ghost use Rattle.std.specs.Prelude.{◌≡◌, ℕ, refl};
 ghost use Rattle.std.proofs.Common.{arith, rules};
 ghost use Rattle.std.proofs.Math.Dec.{lit<};
@@ -36,7 +38,7 @@ impl Block for Accuracy {
 
     type Record = AccuracyRecord;
 
-    ghost site = { place_of };
+    ghost site = { record { number = 10; message_type = Type30; part = OfAccuracy; first_bit = 433; width = 27 } };
 
     ghost size = { 5 };
 

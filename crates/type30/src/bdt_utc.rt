@@ -1,5 +1,7 @@
 //! BeiDou time against UTC.
-ghost use Rattle.type30.specs.BdtUtcCounts.{counts_of, place_of, record_of};
+ghost use Rattle.layout.specs.declared.MessageType.TheVariants.{Type30};
+ghost use Rattle.layout.specs.declared.Part.TheVariants.{BdtUtc as OfBdtUtc};
+ghost use Rattle.type30.specs.BdtUtcCounts.{counts_of, record_of};
 ghost use Rattle.std.specs.Prelude.{◌≡◌, ℕ, refl};
 ghost use Rattle.std.proofs.Common.{arith, rules};
 ghost use Rattle.std.proofs.Math.Dec.{lit<};
@@ -44,7 +46,7 @@ impl Block for BdtUtc {
 
     type Record = BdtUtcRecord;
 
-    ghost site = { place_of };
+    ghost site = { record { number = 8; message_type = Type30; part = OfBdtUtc; first_bit = 198; width = 97 } };
 
     ghost size = { 9 };
 

@@ -1,5 +1,7 @@
 //! The clock of the satellite.
-ghost use Rattle.type30.specs.ClockCounts.{counts_of, place_of, record_of};
+ghost use Rattle.layout.specs.declared.MessageType.TheVariants.{Type30};
+ghost use Rattle.layout.specs.declared.Part.TheVariants.{Clock as OfClock};
+ghost use Rattle.type30.specs.ClockCounts.{counts_of, record_of};
 ghost use Rattle.std.specs.Prelude.{◌≡◌, ℕ, refl};
 ghost use Rattle.std.proofs.Common.{arith, rules};
 ghost use Rattle.std.proofs.Math.Dec.{lit<};
@@ -34,7 +36,7 @@ impl Block for Clock {
 
     type Record = ClockRecord;
 
-    ghost site = { place_of };
+    ghost site = { record { number = 5; message_type = Type30; part = OfClock; first_bit = 43; width = 69 } };
 
     ghost size = { 4 };
 

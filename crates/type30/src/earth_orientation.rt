@@ -1,5 +1,7 @@
 //! The orientation of the earth.
-ghost use Rattle.type30.specs.EarthOrientationCounts.{counts_of, place_of, record_of};
+ghost use Rattle.layout.specs.declared.MessageType.TheVariants.{Type30};
+ghost use Rattle.layout.specs.declared.Part.TheVariants.{EarthOrientation as OfEarthOrientation};
+ghost use Rattle.type30.specs.EarthOrientationCounts.{counts_of, record_of};
 ghost use Rattle.std.specs.Prelude.{◌≡◌, ℕ, refl};
 ghost use Rattle.std.proofs.Common.{arith, rules};
 ghost use Rattle.std.proofs.Math.Dec.{lit<};
@@ -40,7 +42,7 @@ impl Block for EarthOrientation {
 
     type Record = EarthOrientationRecord;
 
-    ghost site = { place_of };
+    ghost site = { record { number = 9; message_type = Type30; part = OfEarthOrientation; first_bit = 295; width = 138 } };
 
     ghost size = { 7 };
 

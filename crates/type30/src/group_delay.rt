@@ -1,5 +1,7 @@
 //! The group delay.
-ghost use Rattle.type30.specs.GroupDelayCounts.{counts_of, place_of, record_of};
+ghost use Rattle.layout.specs.declared.MessageType.TheVariants.{Type30};
+ghost use Rattle.layout.specs.declared.Part.TheVariants.{GroupDelay as OfGroupDelay};
+ghost use Rattle.type30.specs.GroupDelayCounts.{counts_of, record_of};
 ghost use Rattle.std.specs.Prelude.{◌≡◌, ℕ, refl};
 ghost use Rattle.std.proofs.Common.{arith, rules};
 ghost use Rattle.std.proofs.Math.Dec.{lit<};
@@ -28,7 +30,7 @@ impl Block for GroupDelay {
 
     type Record = GroupDelayRecord;
 
-    ghost site = { place_of };
+    ghost site = { record { number = 6; message_type = Type30; part = OfGroupDelay; first_bit = 112; width = 12 } };
 
     ghost size = { 1 };
 

@@ -1,5 +1,7 @@
 //! The health of the satellite.
-ghost use Rattle.type30.specs.HealthCounts.{counts_of, place_of, record_of};
+ghost use Rattle.layout.specs.declared.MessageType.TheVariants.{Type30};
+ghost use Rattle.layout.specs.declared.Part.TheVariants.{Health as OfHealth};
+ghost use Rattle.type30.specs.HealthCounts.{counts_of, record_of};
 ghost use Rattle.std.specs.Prelude.{◌≡◌, ℕ, refl};
 ghost use Rattle.std.proofs.Common.{arith, rules};
 ghost use Rattle.std.proofs.Math.Dec.{lit<};
@@ -28,7 +30,7 @@ impl Block for Health {
 
     type Record = HealthRecord;
 
-    ghost site = { place_of };
+    ghost site = { record { number = 11; message_type = Type30; part = OfHealth; first_bit = 460; width = 2 } };
 
     ghost size = { 1 };
 

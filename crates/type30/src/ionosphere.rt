@@ -1,7 +1,9 @@
 //! The coefficients of the ionosphere.
 ghost use Rattle.std.specs.Prelude.{◌≡◌, ℕ, ◌-◌, ◌≤◌, pos, negsuc, ◌<ℤ◌, Some, None, slice_index_or, refl};
 ghost use Rattle.type30.specs.Eighths.{eighths_of};
-ghost use Rattle.type30.specs.IonosphereCounts.{counts_of, place_of, record_of};
+ghost use Rattle.layout.specs.declared.MessageType.TheVariants.{Type30};
+ghost use Rattle.layout.specs.declared.Part.TheVariants.{Ionosphere as OfIonosphere};
+ghost use Rattle.type30.specs.IonosphereCounts.{counts_of, record_of};
 ghost use Rattle.std.proofs.Common.{arith, rules};
 ghost use Rattle.std.proofs.Math.Dec.{lit<};
 ghost use Rattle.layout.specs.Layout.{fields_of, parts_of, width_of};
@@ -45,7 +47,7 @@ impl Block for Ionosphere {
 
     type Record = IonosphereRecord;
 
-    ghost site = { place_of };
+    ghost site = { record { number = 7; message_type = Type30; part = OfIonosphere; first_bit = 124; width = 74 } };
 
     ghost size = { 9 };
 

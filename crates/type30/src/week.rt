@@ -1,5 +1,7 @@
 //! The week number.
-ghost use Rattle.type30.specs.WeekCounts.{counts_of, place_of, record_of};
+ghost use Rattle.layout.specs.declared.MessageType.TheVariants.{Type30};
+ghost use Rattle.layout.specs.declared.Part.TheVariants.{Week as OfWeek};
+ghost use Rattle.type30.specs.WeekCounts.{counts_of, record_of};
 ghost use Rattle.std.specs.Prelude.{◌≡◌, ℕ, refl};
 ghost use Rattle.std.proofs.Common.{arith, rules};
 ghost use Rattle.std.proofs.Math.Dec.{lit<};
@@ -28,7 +30,7 @@ impl Block for Week {
 
     type Record = WeekRecord;
 
-    ghost site = { place_of };
+    ghost site = { record { number = 4; message_type = Type30; part = OfWeek; first_bit = 26; width = 13 } };
 
     ghost size = { 1 };
 

@@ -1,6 +1,5 @@
 -- What is written over one part of a message leaves the other parts.
-use Rattle.std.proofs.Common.{◌≡◌, ℕ, zero, suc, ◌+◌, ◌<◌, ◌≤◌, Bool, true, false, ◌≢◌, ◌⊎◌, List, [], ◌∷◌, map, length, get_or, take, sum_by, sym, refl, ap, ◌∙◌, subst, inl, inr, add-zero, add-one, arith}
-use mathlib.Core.Path.{subst⁻¹}
+use Rattle.std.proofs.Common.{◌≡◌, ℕ, suc, ◌+◌, ◌<◌, ◌≤◌, Bool, true, ◌≢◌, ◌⊎◌, List, [], ◌∷◌, map, length, get_or, take, sum_by, refl, ap, ◌∙◌, subst, inl, inr, add-zero, add-one, arith}
 use Rattle.std.proofs.ByRecursion.{All-append}
 use Rattle.std.proofs.lemmas.List.Sums.{sum_by-cons, sum_by_more}
 use Rattle.std.proofs.lemmas.Bool.{cases_order, cond_both}
@@ -8,14 +7,13 @@ use Rattle.std.specs.Int.Digits.{number_from_digits}
 use Rattle.std.specs.List.{AllByRecursion}
 use Rattle.bits.specs.Bits.{part, pasted}
 use Rattle.bits.proofs.Pasted.{part_after, part_before}
-use Rattle.layout.specs.Layout.{fields_of, parts_of, widths, width_of}
+use Rattle.layout.specs.Layout.{fields_of, widths, width_of}
 use Rattle.layout.specs.Laws.{start}
 use Rattle.layout.specs.Placed.{Placed, at, kept, placed, spread}
-use Rattle.layout.specs.Ranges.{InRange, count_of, held}
+use Rattle.layout.specs.Ranges.{count_of, held}
 use Rattle.layout.specs.declared.Field.{Field}
 use Rattle.layout.specs.declared.Part.{Part}
 use Rattle.layout.specs.declared.Part.TheVariants.{Opaque}
-use Rattle.layout.proofs.Sizes.{fits}
 use Rattle.layout.proofs.Tiling.{ends_before}
 
 -- n bits from bit b on end before the bits that are written over, or begin after them

@@ -1,5 +1,5 @@
 -- A draft after each step: started, a block put, sealed.
-use Rattle.std.proofs.Common.{◌≡◌, ℕ, zero, suc, ◌+◌, ◌-◌, ◌^◌, ◌<◌, ◌≤◌, Bool, true, false, not, ◌||◌, eqb, ◌≢◌, ◌⊎◌, List, [], ◌∷◌, map, length, get_or, take, set, replicate, ℤ, is_some, Some, None, sum_by, Option, sym, refl, ap, ◌∙◌, subst, inl, inr, arith}
+use Rattle.std.proofs.Common.{◌≡◌, ℕ, ◌+◌, ◌^◌, ◌<◌, ◌≤◌, Bool, true, false, not, ◌||◌, eqb, ◌≢◌, ◌⊎◌, List, map, length, get_or, take, set, replicate, ℤ, is_some, Some, None, Option, sym, refl, ap, ◌∙◌, subst, inl, inr, arith}
 use mathlib.Core.Path.{subst⁻¹}
 use Rattle.std.proofs.lemmas.List.{get_or-set_other}
 use Rattle.std.proofs.lemmas.List.Sums.{sum_by_more, sum_by-take-le}
@@ -17,7 +17,6 @@ use Rattle.blocks.specs.Write.{first_unfit, pack, written_over}
 use Rattle.blocks.specs.declared.place.Place.{Place}
 use Rattle.blocks.proofs.Accepted.{in_spread}
 use Rattle.blocks.proofs.Packed.{length_pack, outside_held}
-use Rattle.blocks.proofs.Placing.{room}
 use Rattle.blocks.proofs.Written.{held_new, inside, none_outside, same_number}
 use Rattle.computed.proofs.Below.{all_below, each2}
 use Rattle.crc.specs.Crc.{crc_of, crc_of_message}
@@ -36,7 +35,7 @@ use Rattle.layout.proofs.Sizes.{fits}
 use Rattle.message.specs.Lawful.{Lawful, number_at}
 use Rattle.parity.specs.Code.{SymbolList}
 use Rattle.written.specs.Drafted.{Drafted, PutInto, SealedAs, is_written, written_in_range}
-use Rattle.written.specs.Written.{LawfulAs, start_bits}
+use Rattle.written.specs.Written.{start_bits}
 use Rattle.written.proofs.Apart.{Beside, parts_beside, same_held, spread_all}
 
 -- the fields of part number j, each with its first bit

@@ -1,9 +1,8 @@
 -- Counts that their fields may hold, said in two ways.
 use Rattle.std.proofs.Common.{◌≡◌, ℕ, ◌+◌, Bool, cond, List, [], ◌∷◌, length, ℤ, Some, None, refl, ap, ◌∙◌, arith}
 use Rattle.layout.specs.Placed.{placed}
-use Rattle.layout.specs.Ranges.{outside}
 use Rattle.layout.specs.declared.Field.{Field}
-use Rattle.layout.proofs.Ranges.{none_cons, not_outside, within}
+use Rattle.layout.proofs.Ranges.{not_outside}
 use Rattle.blocks.specs.Write.{first_unfit}
 use Rattle.written.specs.Written.{FitsAll}
 

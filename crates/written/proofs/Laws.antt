@@ -5,7 +5,7 @@ use lib.ListN.{length-map}
 use Rattle.std.proofs.lemmas.List.{drop_at, get_or-map, take_all, take_at}
 use Rattle.std.specs.Int.Digits.{number_from_digits}
 use Rattle.std.specs.List.{AllByRecursion}
-use Rattle.bits.specs.Bits.{bits_of, part, spelled}
+use Rattle.bits.specs.Bits.{bits_of, spelled}
 use Rattle.bits.proofs.Spelled.{length_spelled, number_spelled}
 use Rattle.crc.specs.Crc.{crc_of, crc_of_message}
 use Rattle.crc.proofs.Steps.{steps_lt}

@@ -10,7 +10,7 @@ use Rattle.bits.specs.Bits.{bits_of, pasted, spelled}
 use Rattle.bits.proofs.Spelled.{length_spelled}
 use Rattle.bits.proofs.Symbols.{bits_take}
 use Rattle.crc.specs.Crc.{crc_of}
-use Rattle.layout.specs.Layout.{fields_of, number_of, parts_of, reserved, width_of}
+use Rattle.layout.specs.Layout.{fields_of, number_of, reserved, width_of}
 use Rattle.layout.specs.Placed.{is_reserved}
 use Rattle.layout.specs.Ranges.{Within}
 use Rattle.layout.specs.declared.MessageType.{MessageType}

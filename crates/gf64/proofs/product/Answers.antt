@@ -1,6 +1,6 @@
 use Rattle.std.proofs.Common.{◌≡◌, ℕ, ◌+◌, ◌%◌, ◌<◌, get_or, sym, ap, ◌∙◌, ap₂, inl, inr, arith}
 use mathlib.Core.Path.{subst⁻¹}
-use Rattle.gf64.specs.Field.{logs, exps, mul}
+use Rattle.gf64.specs.Field.{exps, mul}
 use Rattle.gf64.proofs.Laws.{mul_comm, mul_lt, mul_zero, log_lt, exp_log}
 use Rattle.gf64.proofs.product.Goals as goal
 

@@ -1,9 +1,8 @@
-use Rattle.std.proofs.Common.{◌≡◌, false, take, replicate, Some, sym, refl, ap, ◌∙◌, rules}
+use Rattle.std.proofs.Common.{false, take, replicate, Some, sym, refl, ap, ◌∙◌}
 use mathlib.Core.Path.{subst⁻¹}
 use Rattle.layout.specs.declared.MessageType.{MessageType}
 use Rattle.bits.proofs.Symbols.{bits_take}
 use Rattle.written.specs.Drafted.{Drafted}
-use Rattle.written.specs.Written.{start_bits}
 use Rattle.written.proofs.Drafts.{started_second}
 use Rattle.writer.proofs.Drafting.{drafted, startable}
 use Rattle.writer.proofs.start.Goals as goal

@@ -1,7 +1,7 @@
-use Rattle.std.proofs.Common.{◌≡◌, ℕ, suc, ◌<◌, List, set, sym, ap, ◌∙◌, subst, subst₂, add-one, arith, lit<}
+use Rattle.std.proofs.Common.{◌≡◌, ℕ, suc, List, set, sym, ap, ◌∙◌, subst, subst₂, add-one, arith, lit<}
 use Rattle.gf64.specs.Field.{mul}
 use Rattle.parity.specs.Code.{sym_at}
-use Rattle.parity.specs.Ring.{next, run, start, to_place}
+use Rattle.parity.specs.Ring.{next, run, start}
 use Rattle.parity.proofs.Ring.{FilledTo, filled_codeword, filled_none, filled_more, next_same, run_suc, run_zero, start_is}
 use Rattle.parity.proofs.encoder.fill.Goals as goal
 

@@ -1,4 +1,4 @@
-use Rattle.std.proofs.Common.{◌≡◌, ℕ, ◌<◌, sym, ap, ◌∙◌, ap₂}
+use Rattle.std.proofs.Common.{◌≡◌, ℕ, ◌<◌, ap, ◌∙◌, ap₂}
 use mathlib.Core.Path.{subst⁻¹}
 use lib.Bits.{bit_xor}
 use Rattle.gf64.specs.Field.{mul, inv}

@@ -1,4 +1,4 @@
-use Rattle.std.proofs.Common.{◌≡◌, ℕ, true, List, take, set, sym, refl, ap, ◌∙◌, rules}
+use Rattle.std.proofs.Common.{◌≡◌, true, take, set, sym, refl, ap, ◌∙◌, rules}
 use mathlib.Core.Path.{subst⁻¹}
 use Rattle.layout.specs.Layout.{number_of}
 use Rattle.blocks.specs.declared.place.Place.{Place}
