@@ -5,7 +5,7 @@ use Rattle.blocks.specs.Numbered.{Numbered}
 use Rattle.blocks.specs.Stands.{Stands}
 use Rattle.blocks.specs.Write.{first_unfit}
 use Rattle.blocks.specs.declared.place.Place.{Place}
-use Rattle.frames.specs.Frame.{bytes_bits, frame_answer, frame_bits, is_satellite}
+use Rattle.frames.specs.Frame.{bytes_bits, frame_bits, is_satellite}
 use Rattle.frames.specs.declared.FrameFault.{FrameFault}
 use Rattle.layout.specs.Layout.{number_of}
 use Rattle.layout.specs.declared.MessageType.{MessageType}

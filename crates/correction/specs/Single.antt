@@ -1,6 +1,6 @@
 -- Code words that differ from a word in at most one place.
-use Rattle.std.specs.Prelude.{◌≡◌, ℕ, zero, suc, ◌/◌, ◌%◌, ◌<◌, ◌≤◌, List, length, Some, None, Option}
-use Rattle.parity.specs.Code.{Code, Codeword, altered, differences}
+use Rattle.std.specs.Prelude.{◌≡◌, ℕ, zero, suc, ◌/◌, ◌%◌, ◌<◌, ◌≤◌, List, Some, None, Option}
+use Rattle.parity.specs.Code.{Codeword, altered}
 pub use Rattle.parity.specs.Sound.{Near, OneNear}
 use Rattle.parity.specs.Table.{bcnav3}
 use Rattle.correction.specs.Search.{first_codeword}

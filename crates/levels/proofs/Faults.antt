@@ -1,11 +1,10 @@
 -- Levels that are not refused.
-use Rattle.std.proofs.Common.{◌≡◌, ℕ, ◌<◌, Bool, true, false, cond, eqb, List, length, Some, None, Option, sym, refl, subst, arith}
+use Rattle.std.proofs.Common.{◌≡◌, ℕ, Bool, true, false, cond, eqb, List, length, Some, None, Option, refl, subst, arith}
 use lib.Ieee.{Float}
 use Rattle.std.proofs.lemmas.Bool.{eqb-true}
 use Rattle.std.specs.Option.{option_map}
 use Rattle.parity.proofs.Firsts.{first_all}
 use Rattle.levels.specs.Faults.{first_illegal, is_legal, level_fault, LegalBelow}
-use Rattle.levels.specs.declared.fault.LevelFault.{LevelFault}
 use Rattle.levels.specs.declared.fault.LevelFault.TheVariants.{Length, Illegal}
 
 passed : (b : Bool) (o : Option ℕ) → cond b (option_map Illegal o) (Some Length) ≡ None → (b ≡ true) × (o ≡ None)

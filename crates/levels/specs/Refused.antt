@@ -1,5 +1,4 @@
 -- Number, layer and place of every fault.
-use Rattle.std.specs.Prelude.{ℕ}
 use Rattle.refusal.specs.declared.Layer.{Layer}
 use Rattle.refusal.specs.declared.Refusal.{Refusal}
 use Rattle.levels.specs.declared.fault.LevelFault.{LevelFault}

@@ -1,6 +1,6 @@
 -- How far a level of k eighths is from a sign: the difference and its square are exact.
-use Rattle.std.proofs.Common.{◌≡◌, ℕ, suc, ◌+◌, ◌-◌, ◌*◌, ◌<◌, ◌≤◌, Bool, true, false, cond, T, eqb, ℤ, pos, negsuc, ◌+ℤ◌, ◌-ℤ◌, neg_ℤ, nat_abs, sym, refl, subst, inl, inr, lt_of_le_of_lt, mul-le-mul_right, mul-le-mul, le_of_mul-le-mul_right, arith, lit<}
-use lib.Ieee.{Float, nan, inf, fin, binary32, up, down, fits, round, sum, add, sub, neg}
+use Rattle.std.proofs.Common.{◌≡◌, ℕ, suc, ◌+◌, ◌-◌, ◌*◌, ◌≤◌, Bool, true, false, cond, T, eqb, ℤ, pos, negsuc, ◌+ℤ◌, ◌-ℤ◌, neg_ℤ, nat_abs, sym, refl, subst, inl, inr, lt_of_le_of_lt, mul-le-mul_right, mul-le-mul, le_of_mul-le-mul_right, arith, lit<}
+use lib.Ieee.{Float, nan, inf, fin, binary32, down, fits, round, sum, add, sub, neg}
 use lib.Ieee.Exact.{HasValue}
 use lib.Ieee.Fits.{down_pos, round-fits}
 use Rattle.levels.proofs.Means.{legal_within}

@@ -1,4 +1,4 @@
-use Rattle.std.proofs.Common.{◌≡◌, Result, sym, ap, ◌∙◌}
+use Rattle.std.proofs.Common.{Result, sym, ap, ◌∙◌}
 use Rattle.writer.specs.declared.fault.WriterFault.{WriterFault}
 use Rattle.compose.specs.Composed.{ask_all, in_turn, write_answer}
 use Rattle.compose.specs.Contents.{counts10, counts30}

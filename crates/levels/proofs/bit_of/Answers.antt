@@ -1,4 +1,4 @@
-use Rattle.std.proofs.Common.{◌≡◌, ℕ, sym, ◌∙◌, lit<}
+use Rattle.std.proofs.Common.{◌≡◌, ◌∙◌, lit<}
 use lib.Ieee.{of_bits}
 use Rattle.levels.specs.Levels.{bit}
 use Rattle.levels.proofs.Means.{bit_negative, bit_other}
