@@ -23,6 +23,7 @@ UNMASKED = {"AllByRecursion as All": ("All", "AllByRecursion")}
 # where snake case alone would fall together with another name, and a type
 RENAMED = {
     "First-bits": "FirstBits",
+    "Unit-and-rest": "UnitAndRest",
     "by-type": "by_type_lem",
     "by_field": "by_field_lem",
     "closed-bits": "closed_bits_lem",
@@ -62,13 +63,15 @@ def read(path):
 
 def declared():
     """The words and the record fields that files of specs/ and proofs/ declare."""
-    words, fields = {"First-bits": {"crates/layout/specs/Laws.antt"}}, {}
+    words, fields = {}, {}
     for path in files(".antt"):
         kind, depth_of_record = words, 0
         for line in read(path).split("\n"):
             depth = len(line) - len(line.lstrip())
             if re.match(r"\s*(pub\s+)?record\s", line):
                 kind, depth_of_record = fields, depth
+                if line.split("record ")[1].split()[0] in RENAMED:
+                    words.setdefault(line.split("record ")[1].split()[0], set()).add(os.path.relpath(path, TOP))
                 continue
             if kind is fields and line.strip() and not line.lstrip().startswith("--") and depth <= depth_of_record:
                 kind = words

@@ -10,12 +10,12 @@ use Rattle.parity.specs.Sound.{absent, distinct, units}
 use Rattle.parity.proofs.Cases.{by}
 
 -- what the test of the factors says
-record Unit-and-rest (f : ℕ) (fs : List ℕ) : Type 0 where
+record UnitAndRest (f : ℕ) (fs : List ℕ) : Type 0 where
   some : f ≢ 0
   small : f < 64
   rest : units fs ≡ true
 
-unit_and_rest : (f : ℕ) (fs : List ℕ) → units (f ∷ fs) ≡ true → Unit-and-rest f fs
+unit_and_rest : (f : ℕ) (fs : List ℕ) → units (f ∷ fs) ≡ true → UnitAndRest f fs
 unfolding units
 unit_and_rest f fs t =
     let p = and_parts (ltb 0 f && ltb f 64) (units fs) t in

@@ -2,10 +2,10 @@ use Rattle.std.proofs.Common.{length, refl, ◌∙◌}
 use Rattle.layout.specs.declared.MessageType.TheVariants.{Type30 as Kind30}
 use Rattle.type30.specs.WeekCounts.{record_of as week_record}
 use Rattle.type30.specs.ClockCounts.{record_of as clock_record}
-use Rattle.type30.specs.GroupDelayCounts.{record_of as group_delay-record}
+use Rattle.type30.specs.GroupDelayCounts.{record_of as group_delay_record}
 use Rattle.type30.specs.IonosphereCounts.{record_of as ionosphere_record}
-use Rattle.type30.specs.BdtUtcCounts.{record_of as bdt_utc-record}
-use Rattle.type30.specs.EarthOrientationCounts.{record_of as earth_orientation-record}
+use Rattle.type30.specs.BdtUtcCounts.{record_of as bdt_utc_record}
+use Rattle.type30.specs.EarthOrientationCounts.{record_of as earth_orientation_record}
 use Rattle.type30.specs.AccuracyCounts.{record_of as accuracy_record}
 use Rattle.type30.specs.HealthCounts.{record_of as health_record}
 use Rattle.compose.specs.declared.records.Records.TheVariants.{Type30}
@@ -33,10 +33,10 @@ returns c =
         reads = λ v e. record {
           week = read_one _ _ v _ week_record e p8.held.1.1.1.1.1.1.1.0;
           clock = read_one _ _ v _ clock_record e p8.held.1.1.1.1.1.1.0;
-          group_delay = read_one _ _ v _ group_delay-record e p8.held.1.1.1.1.1.0;
+          group_delay = read_one _ _ v _ group_delay_record e p8.held.1.1.1.1.1.0;
           ionosphere = read_one _ _ v _ ionosphere_record e p8.held.1.1.1.1.0;
-          bdt_utc = read_one _ _ v _ bdt_utc-record e p8.held.1.1.1.0;
-          earth_orientation = read_one _ _ v _ earth_orientation-record e p8.held.1.1.0;
+          bdt_utc = read_one _ _ v _ bdt_utc_record e p8.held.1.1.1.0;
+          earth_orientation = read_one _ _ v _ earth_orientation_record e p8.held.1.1.0;
           accuracy = read_one _ _ v _ accuracy_record e p8.held.1.0;
           health = read_one _ _ v _ health_record e p8.held.0;
         };
