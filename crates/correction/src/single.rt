@@ -74,7 +74,7 @@ pub fn correct_single_error(word: &Word) -> Correction
     ensures one { (c : Code) → Sound c → OneNear c }
     ensures most { result.trials ≤ 10206 }
     ensures none { result.word ≡ None → result.trials ≡ 10206 }
-    ensures zero { ((result.trials ≡ 0 → Codeword bcnav3 word.now.bytes)) × ((Codeword bcnav3 word.now.bytes → result.trials ≡ 0)) }
+    ensures zero { (result.trials ≡ 0 → Codeword bcnav3 word.now.bytes) × (Codeword bcnav3 word.now.bytes → result.trials ≡ 0) }
 {
     search(word)
 }

@@ -29,7 +29,7 @@ pub fn is_legal(level: f32) -> bool
 /// The bit that a level reads as: 1 below 0. Minus zero reads as 0.
 pub fn bit_of(level: f32) -> u8
     ensures value { result ≡ bit level }
-    ensures negative { ((Negative level → result ≡ 1)) × (((Negative level → ⊥) → result ≡ 0)) }
+    ensures negative { (Negative level → result ≡ 1) × ((Negative level → ⊥) → result ≡ 0) }
     ensures below { result < 2 }
 {
     if level < 0.0 { 1 } else { 0 }

@@ -79,7 +79,7 @@ impl Symbols<162> {
     /// code word.
     pub fn first_nonzero_sum(&self) -> Option<usize>
         ensures row { result ≡ first_nonzero self.now.bytes }
-        ensures none { ((result ≡ None → Codeword bcnav3 self.now.bytes)) × ((Codeword bcnav3 self.now.bytes → result ≡ None)) }
+        ensures none { (result ≡ None → Codeword bcnav3 self.now.bytes) × (Codeword bcnav3 self.now.bytes → result ≡ None) }
         ensures sound { Sound bcnav3 }
         ensures altered { (c : Code) → Sound c → AlteredIsNone c }
     {
