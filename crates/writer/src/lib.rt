@@ -95,7 +95,7 @@ fn type_of(number: u8) -> MessageType
 
 /// A draft of a type and a second, without a block, where `ask_start` refuses nothing.
 ///
-/// All other bits of the buffer become 0.
+/// All other bits of the buffer become 0. The draft is drafted: what `seal` needs for a lawful message holds of it.
 pub fn start<'a>(buffer: &'a mut [u8], number: u8, second: u32) -> Draft<'a>
     requires { start_answer (length buffer.old) number second ≡ Ok tt }
     ensures holds { bits_of result.row.buf.now ≡ start_bits number second }
@@ -158,8 +158,8 @@ impl<'a> Draft<'a> {
     /// Writes a block, or refuses it and changes nothing.
     ///
     /// A block is refused where the draft's type does not have it, then where the draft has it already, then at its first
-    /// field out of range. Where every kind has the number of its part, the draft then holds the block's counts, and the other
-    /// blocks' as before.
+    /// field out of range. A kind that has the number of its part, as the eleven kinds do, leaves a draft that holds the block's
+    /// counts, and the other blocks' as before; and a draft that was drafted stays so.
     pub fn put<K: Block>(&mut self, of: &K::Record) -> Result<(), WriterFault>
         ensures answer { result ≡ put_answer self.old.message_type self.old.done K.site (K.counts of.now) }
         ensures writes { MatchResult result (λ _. (bits_of self.new.row.buf.now ≡ written_over K.site (K.counts of.now) (bits_of self.old.row.buf.now)) × (self.new.done ≡ slice_set self.old.done K.site.number true)) (λ _. (self.new.row.buf.now ≡ self.old.row.buf.now) × (self.new.done ≡ self.old.done)) }
@@ -194,8 +194,8 @@ impl<'a> Draft<'a> {
 
     /// The message of the draft with its CRC, where `ask_seal` refuses nothing.
     ///
-    /// In whatever order the blocks were put, the message is lawful, and has the draft's type and second and the counts of
-    /// every block.
+    /// The message of a drafted draft is lawful, in whatever order the blocks were put, and has the draft's type and second and
+    /// the counts of every block. So it is of a draft that was written in the order of the layout, with counts in range.
     pub fn seal(self) -> Sealed<'a>
         requires { seal_answer self.message_type self.done ≡ Ok tt }
         ensures holds { bits_of result.row.buf.now ≡ pasted (bits_of self.entry.row.buf.now) 462 (spelled 24 (crc_of_message (take 81 self.entry.row.buf.now))) }

@@ -29,7 +29,8 @@ pub record Drafted (t : MessageType) (done : List Bool) (m : List ℕ) : Type 0 
   pub second : number_at m 6 20 ≤ 604799
   pub ranges : written_in_range t done m ≡ true
 
--- v is m with the counts zs put into the block at p: the second and every other block of the type are as they were
+-- v is m with the counts zs put into the block at p: the second is as it was, and so is every other block of the type, of those
+-- that have the number of their part
 pub record PutInto (p : Place) (zs : List ℤ) (m v : List ℕ) : Type 0 where
   pub holds : held_in p v ≡ zs
   pub second : number_at v 6 20 ≡ number_at m 6 20
