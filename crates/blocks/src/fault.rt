@@ -4,7 +4,7 @@ ghost use Rattle.blocks.specs.Refused.{block_refusal};
 ghost use Rattle.blocks.specs.declared.fault.BlockFault.TheVariants.{Symbols};
 
 use parity::SymbolFault;
-use refusal::{Layer, Refusal};
+use refusal::{Layer, Reason, Refusal};
 
 /// Why a block is not read or not written.
 #[derive(Clone, Copy, PartialEq, Debug)]
@@ -30,14 +30,13 @@ impl BlockFault {
     pub fn refusal(self) -> Refusal
         ensures { result ≡ block_refusal self }
     {
-        let (number, place) = match self {
-            BlockFault::Symbols(SymbolFault::Length) => (1, 0),
-            BlockFault::Symbols(SymbolFault::Byte(index)) => (8, index),
-            BlockFault::OtherType(block) => (15, block as usize),
-            BlockFault::Field(bit) => (13, bit),
+        let (reason, place) = match self {
+            BlockFault::Symbols(fault) => return fault.refusal(Layer::Block),
+            BlockFault::OtherType(block) => (Reason::OtherBlock, block as usize),
+            BlockFault::Field(bit) => (Reason::OutOfRange, bit),
         };
         Refusal {
-            number,
+            reason,
             layer: Layer::Block,
             place,
         }

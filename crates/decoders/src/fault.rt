@@ -4,7 +4,7 @@ ghost use Rattle.decoders.specs.Refused.{ask_refusal};
 ghost use Rattle.decoders.specs.declared.fault.AskFault.TheVariants.{Levels};
 
 use levels::fault::LevelFault;
-use refusal::{Layer, Refusal};
+use refusal::{Layer, Reason, Refusal};
 
 /// Why a decoder refuses what it is asked.
 #[derive(Clone, Copy, PartialEq, Debug)]
@@ -30,7 +30,7 @@ impl AskFault {
     {
         match self {
             AskFault::Buffer => Refusal {
-                number: 1,
+                reason: Reason::WrongLength,
                 layer: Layer::Decoder,
                 place: 0,
             },

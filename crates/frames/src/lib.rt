@@ -9,7 +9,7 @@ ghost use Rattle.bits.specs.Bits.{bits_of, part};
 ghost use Rattle.frames.specs.Frame.{bytes_bits, frame_answer, frame_bits, is_satellite};
 ghost use Rattle.frames.specs.Refused.{frame_refusal};
 
-use refusal::{Layer, Refusal};
+use refusal::{Layer, Reason, Refusal};
 
 /// Why no frame is written.
 #[derive(Clone, Copy, PartialEq, Debug)]
@@ -25,12 +25,12 @@ impl FrameFault {
     pub fn refusal(self) -> Refusal
         ensures { result ≡ frame_refusal self }
     {
-        let number = match self {
-            FrameFault::Length => 1,
-            FrameFault::Satellite => 2,
+        let reason = match self {
+            FrameFault::Length => Reason::WrongLength,
+            FrameFault::Satellite => Reason::NoSatellite,
         };
         Refusal {
-            number,
+            reason,
             layer: Layer::Writer,
             place: 0,
         }

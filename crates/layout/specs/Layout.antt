@@ -1,11 +1,13 @@
 -- The types of message, the parts of each type, and the fields of each part.
-use Rattle.std.specs.Prelude.{◌≡◌, ℕ, ◌-◌, ◌^◌, true, false, cond, List, [], ◌∷◌, pos, negsuc, Some, None, sum_by, Option, ◌==◌}
+use Rattle.std.specs.Prelude.{◌≡◌, ℕ, ◌-◌, ◌^◌, true, false, cond, List, [], ◌∷◌, pos, negsuc, Some, None, sum_by, Option, Result, IfErr, ◌==◌}
+use Rattle.std.specs.Result.{result_ok}
 use Rattle.layout.specs.declared.Field.{Field}
 use Rattle.layout.specs.declared.MessageType.{MessageType}
 use Rattle.layout.specs.declared.MessageType.TheVariants.{Type10, Type30, Type40}
 use Rattle.layout.specs.declared.Part.{Part}
 use Rattle.layout.specs.declared.Part.TheVariants.{Reserved, Ephemeris1, Ephemeris2, Integrity, Week, Clock, GroupDelay}
 use Rattle.layout.specs.declared.Part.TheVariants.{Ionosphere, BdtUtc, EarthOrientation, Accuracy, Health, Opaque}
+use Rattle.layout.specs.declared.UnknownType.{UnknownType}
 
 -- ---- types
 
@@ -21,6 +23,12 @@ type_of n = cond (n == 10) (Some Type10) (cond (n == 30) (Some Type30) (cond (n 
 pub record Inverse (n : ℕ) (answer : Option MessageType) : Type 0 where
   pub own : (t : MessageType) → answer ≡ Some t → number_of t ≡ n
   pub every : (t : MessageType) → number_of t ≡ n → answer ≡ Some t
+
+-- what is made of a number: its type, or the number back where no type has it
+pub record Typed (n : ℕ) (r : Result MessageType UnknownType) : Type 0 where
+  pub same : result_ok r ≡ type_of n
+  pub back : IfErr r (λ e. e.0 ≡ n)
+  pub inverse : Inverse n (result_ok r)
 
 -- ---- fields
 

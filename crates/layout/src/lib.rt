@@ -8,7 +8,7 @@
 ghost use Rattle.std.specs.Prelude.{◌≡◌, ◌+◌, ◌^◌, ◌<◌, ◌≤◌, pos, None};
 ghost use Rattle.std.specs.List.{AllByRecursion};
 ghost use Rattle.bits.specs.Bits.{bits_of};
-ghost use Rattle.layout.specs.Layout.{fields_of, widths, width_of, parts_of, type_of, number_of, Inverse};
+ghost use Rattle.layout.specs.Layout.{fields_of, widths, width_of, parts_of, number_of, Typed};
 ghost use Rattle.layout.specs.Placed.{at as placed_at, placed, kept, spread, is_reserved, looks_at, reserved_of, parameters_of};
 ghost use Rattle.layout.specs.Ranges.{count_of, held, Sized, outside, first_outside, First};
 ghost use Rattle.layout.specs.Laws.{Tiles, FirstBits, Ruled};
@@ -20,9 +20,9 @@ mod table;
 /// The types of message.
 #[derive(Clone, Copy, PartialEq, Debug)]
 pub enum MessageType {
-    Type10,
-    Type30,
-    Type40,
+    Type10 = 10,
+    Type30 = 30,
+    Type40 = 40,
 }
 
 /// The parts of which the data of a message consist: blocks of fields, reserved bits, and bits that are not taken apart.
@@ -52,29 +52,31 @@ pub struct Field {
     pub most: i64,
 }
 
-impl MessageType {
-    /// The type of a number, where a type has it.
-    pub fn from_number(number: u8) -> Option<MessageType>
-        ensures same { result ≡ type_of number }
-        ensures inverse { Inverse number result }
-    {
+/// A number that no type has.
+#[derive(Clone, Copy, PartialEq, Debug)]
+pub struct UnknownType(pub u8);
+
+impl TryFrom<u8> for MessageType {
+    type Error = UnknownType;
+
+    ghost try_from_gives = { Typed };
+
+    fn try_from(number: u8) -> Result<MessageType, UnknownType> {
         match number {
-            10 => Some(MessageType::Type10),
-            30 => Some(MessageType::Type30),
-            40 => Some(MessageType::Type40),
-            _ => None,
+            10 => Ok(MessageType::Type10),
+            30 => Ok(MessageType::Type30),
+            40 => Ok(MessageType::Type40),
+            _ => Err(UnknownType(number)),
         }
     }
+}
 
+impl MessageType {
     /// The number of the type.
     pub fn number(self) -> u8
         ensures { result ≡ number_of self }
     {
-        match self {
-            MessageType::Type10 => 10,
-            MessageType::Type30 => 30,
-            MessageType::Type40 => 40,
-        }
+        self as u8
     }
 }
 
@@ -95,6 +97,7 @@ pub fn parts(kind: MessageType) -> &'static [Part]
 }
 
 /// The fields of a part, one after another; opaque bits have none.
+#[tactic(auto, unfolding(crate::specs::Layout::fields_of))]
 pub fn fields(part: Part) -> &'static [Field]
     ensures { result.now ≡ fields_of part }
 {
@@ -119,10 +122,7 @@ pub fn fields(part: Part) -> &'static [Field]
 fn is_reserved(part: Part) -> bool
     ensures { result ≡ is_reserved part }
 {
-    match part {
-        Part::Reserved => true,
-        _ => false,
-    }
+    part == Part::Reserved
 }
 
 /// The bits of some fields together.
@@ -130,11 +130,7 @@ fn total(fields: &[Field]) -> usize
     requires { widths fields.now ≤ 486 }
     ensures { result ≡ widths fields.now }
 {
-    let mut bits = 0;
-    for field in fields {
-        bits += field.width;
-    }
-    bits
+    fields.iter().map(|field| field.width).sum()
 }
 
 /// The bits of a part.

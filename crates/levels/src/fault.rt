@@ -2,7 +2,7 @@
 ghost use Rattle.std.specs.Prelude.{◌≡◌};
 ghost use Rattle.levels.specs.Refused.{level_refusal};
 
-use refusal::{Layer, Refusal};
+use refusal::{Layer, Reason, Refusal};
 
 /// Why levels are refused.
 #[derive(Clone, Copy, PartialEq, Debug)]
@@ -18,12 +18,12 @@ impl LevelFault {
     pub fn refusal(self, layer: Layer) -> Refusal
         ensures { result ≡ level_refusal layer self }
     {
-        let (number, place) = match self {
-            LevelFault::Length => (1, 0),
-            LevelFault::Illegal(index) => (3, index),
+        let (reason, place) = match self {
+            LevelFault::Length => (Reason::WrongLength, 0),
+            LevelFault::Illegal(index) => (Reason::IllegalLevel, index),
         };
         Refusal {
-            number,
+            reason,
             layer,
             place,
         }

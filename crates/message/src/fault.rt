@@ -1,10 +1,12 @@
 //! Why a message is not lawful, and why bytes are no word of a lawful message.
 ghost use Rattle.std.specs.Prelude.{◌≡◌};
 ghost use Rattle.message.specs.Refused.{message_refusal, word_refusal};
+ghost use Rattle.message.specs.declared.fault.MessageFault.TheVariants.{UnknownType as OfUnknownType};
 ghost use Rattle.message.specs.declared.fault.WordFault.TheVariants.{Symbols, Message};
 
+use layout::UnknownType;
 use parity::SymbolFault;
-use refusal::{Layer, Refusal};
+use refusal::{Layer, Reason, Refusal};
 
 /// Why a message is not lawful.
 #[derive(Clone, Copy, PartialEq, Debug)]
@@ -32,6 +34,14 @@ pub enum WordFault {
     Message(MessageFault),
 }
 
+impl From<UnknownType> for MessageFault {
+    ghost from_gives = { λ e r. r ≡ OfUnknownType e.0 };
+
+    fn from(fault: UnknownType) -> MessageFault {
+        MessageFault::UnknownType(fault.0)
+    }
+}
+
 impl From<SymbolFault> for WordFault {
     ghost from_gives = { λ e r. r ≡ Symbols e };
 
@@ -53,15 +63,15 @@ impl MessageFault {
     pub fn refusal(self) -> Refusal
         ensures { result ≡ message_refusal self }
     {
-        let (number, place) = match self {
-            MessageFault::Crc => (10, 0),
-            MessageFault::UnknownType(number) => (11, number as usize),
-            MessageFault::Second => (12, 6),
-            MessageFault::Reserved(bit) => (6, bit),
-            MessageFault::Field(bit) => (13, bit),
+        let (reason, place) = match self {
+            MessageFault::Crc => (Reason::WrongCrc, 0),
+            MessageFault::UnknownType(number) => (Reason::WrongType, number as usize),
+            MessageFault::Second => (Reason::LateSecond, 6),
+            MessageFault::Reserved(bit) => (Reason::ReservedBit, bit),
+            MessageFault::Field(bit) => (Reason::OutOfRange, bit),
         };
         Refusal {
-            number,
+            reason,
             layer: Layer::Message,
             place,
         }
@@ -73,16 +83,14 @@ impl WordFault {
     pub fn refusal(self) -> Refusal
         ensures { result ≡ word_refusal self }
     {
-        let (number, place) = match self {
-            WordFault::Symbols(SymbolFault::Length) => (1, 0),
-            WordFault::Symbols(SymbolFault::Byte(index)) => (8, index),
-            WordFault::RowSum(row) => (9, row),
-            WordFault::Message(fault) => return fault.refusal(),
-        };
-        Refusal {
-            number,
-            layer: Layer::Word,
-            place,
+        match self {
+            WordFault::Symbols(fault) => fault.refusal(Layer::Word),
+            WordFault::RowSum(row) => Refusal {
+                reason: Reason::NonzeroSum,
+                layer: Layer::Word,
+                place: row,
+            },
+            WordFault::Message(fault) => fault.refusal(),
         }
     }
 }

@@ -24,9 +24,10 @@ use answer::Header;
 use fault::{MessageFault, WordFault};
 
 /// The last second of a week.
-const LAST_SECOND: u32 = 604_799;
+pub const LAST_SECOND: u32 = 604_799;
 
 /// Whether the last 24 bits are the CRC of the bits before them.
+#[tactic(auto, unfolding(crate::specs::Lawful::number_at))]
 fn crc_fits(message: &Message) -> bool
     ensures { result ≡ crc_fits message.now.bytes }
 {
@@ -34,6 +35,7 @@ fn crc_fits(message: &Message) -> bool
 }
 
 /// The number of the type, in bits 0 to 5.
+#[tactic(auto, unfolding(crate::specs::Lawful::number_at))]
 fn type_number(message: &Message) -> u8
     ensures { result ≡ number_at message.now.bytes 0 6 }
 {
@@ -41,6 +43,7 @@ fn type_number(message: &Message) -> u8
 }
 
 /// The second of the week, in bits 6 to 25.
+#[tactic(auto, unfolding(crate::specs::Lawful::number_at))]
 fn second_of_week(message: &Message) -> u32
     ensures { result ≡ number_at message.now.bytes 6 20 }
 {
@@ -53,10 +56,7 @@ fn examine_in_turn(message: &Message) -> Result<Header, MessageFault>
     if !crc_fits(message) {
         return Err(MessageFault::Crc);
     }
-    let number = type_number(message);
-    let Some(message_type) = MessageType::from_number(number) else {
-        return Err(MessageFault::UnknownType(number));
-    };
+    let message_type = MessageType::try_from(type_number(message))?;
     let second = second_of_week(message);
     if second > LAST_SECOND {
         return Err(MessageFault::Second);

@@ -4,3 +4,4 @@ pub mod Table
 pub mod Ring
 pub mod Bytes
 pub mod Words
+pub mod Refused

@@ -13,6 +13,7 @@ ghost use Rattle.parity.specs.Table.{bcnav3};
 use sums::sum;
 
 mod encoder;
+mod fault;
 mod sums;
 mod table;
 

@@ -1,2 +1,2 @@
-pub mod Layers
 pub mod Lines
+pub mod Numbers

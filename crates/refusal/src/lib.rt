@@ -1,11 +1,11 @@
-//! What a refusal answers: its number, the layer that refuses, and a place.
+//! What a refusal answers: its reason, which has a number, the layer that refuses, and a place.
 //!
 //! Each layer has an enum of its own for its faults, and one definition gives the refusal of each case. The numbers and what
 //! their places mean are listed in docs/REFUSALS.md.
 #![tactic(auto)]
 
 ghost use Rattle.std.specs.Prelude.{◌≡◌, Some};
-ghost use Rattle.refusal.specs.Layers.{layer_number};
+ghost use Rattle.refusal.specs.Numbers.{layer_number, reason_number};
 ghost use Rattle.refusal.specs.Lines.{refused_line};
 
 use std::fmt;
@@ -13,14 +13,14 @@ use std::fmt;
 /// The layers, from the levels of a frame up.
 #[derive(Clone, Copy, PartialEq, Debug)]
 pub enum Layer {
-    Levels,
-    Header,
-    Decoder,
-    Word,
-    Message,
-    Block,
-    Rows,
-    Writer,
+    Levels = 1,
+    Header = 2,
+    Decoder = 3,
+    Word = 4,
+    Message = 5,
+    Block = 6,
+    Rows = 7,
+    Writer = 8,
 }
 
 impl Layer {
@@ -28,22 +28,44 @@ impl Layer {
     pub fn number(self) -> u8
         ensures { result ≡ layer_number self }
     {
-        match self {
-            Layer::Levels => 1,
-            Layer::Header => 2,
-            Layer::Decoder => 3,
-            Layer::Word => 4,
-            Layer::Message => 5,
-            Layer::Block => 6,
-            Layer::Rows => 7,
-            Layer::Writer => 8,
-        }
+        self as u8
+    }
+}
+
+/// Why something is refused, by its number.
+#[derive(Clone, Copy, PartialEq, Debug)]
+pub enum Reason {
+    WrongLength = 1,
+    NoSatellite = 2,
+    IllegalLevel = 3,
+    WrongPreamble = 4,
+    OtherSatellite = 5,
+    ReservedBit = 6,
+    NoWord = 7,
+    NoSymbol = 8,
+    NonzeroSum = 9,
+    WrongCrc = 10,
+    WrongType = 11,
+    LateSecond = 12,
+    OutOfRange = 13,
+    NoMessage = 14,
+    OtherBlock = 15,
+    BlockTwice = 16,
+    NoBlock = 17,
+}
+
+impl Reason {
+    /// 1 to 17, in their order.
+    pub fn number(self) -> u8
+        ensures { result ≡ reason_number self }
+    {
+        self as u8
     }
 }
 
 #[derive(Clone, Copy, PartialEq, Debug)]
 pub struct Refusal {
-    pub number: u8,
+    pub reason: Reason,
     pub layer: Layer,
     pub place: usize,
 }
@@ -53,7 +75,7 @@ impl fmt::Display for Refusal {
     ghost output = { λ x. Some (refused_line x) };
 
     fn fmt<W: fmt::Write>(&self, f: &mut fmt::Formatter<W>) -> fmt::Result {
-        let number = self.number;
+        let number = self.reason.number();
         let layer = self.layer.number();
         let place = self.place;
         write!(f, "refused {number} {layer} {place}")
@@ -67,25 +89,24 @@ pub struct InWords(pub Refusal);
 impl fmt::Display for InWords {
     fn fmt<W: fmt::Write>(&self, f: &mut fmt::Formatter<W>) -> fmt::Result {
         let place = self.0.place;
-        match self.0.number {
-            1 => write!(f, "the input or a buffer has the wrong length"),
-            2 => write!(f, "the satellite is not one of 6 to 58"),
-            3 => write!(f, "level {place} is not a number from -4 to 4"),
-            4 => write!(f, "bit {place} of the preamble is wrong"),
-            5 => write!(f, "the header names another satellite"),
-            6 => write!(f, "reserved bit {place} is set"),
-            7 => write!(f, "the decoder proposes no word"),
-            8 => write!(f, "byte {place} is above 63"),
-            9 => write!(f, "the sum of row {place} is not 0"),
-            10 => write!(f, "the CRC does not fit the message"),
-            11 => write!(f, "message type {place} is not allowed here"),
-            12 => write!(f, "the second of week is above 604799"),
-            13 => write!(f, "the field that begins at bit {place} is out of range"),
-            14 => write!(f, "no message was accepted for this satellite and type"),
-            15 => write!(f, "block {place} is not of this message type"),
-            16 => write!(f, "block {place} was put already"),
-            17 => write!(f, "block {place} is missing"),
-            n => write!(f, "refusal {n} is not known"),
+        match self.0.reason {
+            Reason::WrongLength => write!(f, "the input or a buffer has the wrong length"),
+            Reason::NoSatellite => write!(f, "the satellite is not one of 6 to 58"),
+            Reason::IllegalLevel => write!(f, "level {place} is not a number from -4 to 4"),
+            Reason::WrongPreamble => write!(f, "bit {place} of the preamble is wrong"),
+            Reason::OtherSatellite => write!(f, "the header names another satellite"),
+            Reason::ReservedBit => write!(f, "reserved bit {place} is set"),
+            Reason::NoWord => write!(f, "the decoder proposes no word"),
+            Reason::NoSymbol => write!(f, "byte {place} is above 63"),
+            Reason::NonzeroSum => write!(f, "the sum of row {place} is not 0"),
+            Reason::WrongCrc => write!(f, "the CRC does not fit the message"),
+            Reason::WrongType => write!(f, "message type {place} is not allowed here"),
+            Reason::LateSecond => write!(f, "the second of week is above 604799"),
+            Reason::OutOfRange => write!(f, "the field that begins at bit {place} is out of range"),
+            Reason::NoMessage => write!(f, "no message was accepted for this satellite and type"),
+            Reason::OtherBlock => write!(f, "block {place} is not of this message type"),
+            Reason::BlockTwice => write!(f, "block {place} was put already"),
+            Reason::NoBlock => write!(f, "block {place} is missing"),
         }
     }
 }

@@ -4,8 +4,9 @@ use Rattle.std.specs.Option.{option_map}
 use Rattle.refusal.specs.declared.Layer.TheVariants.{Decoder}
 use Rattle.refusal.specs.declared.Refusal.{Refusal}
 use Rattle.parity.specs.Bytes.{symbol_fault}
+use Rattle.parity.specs.Refused.{symbol_refusal}
 use Rattle.parity.specs.declared.SymbolFault.{SymbolFault}
-use Rattle.parity.specs.declared.SymbolFault.TheVariants.{Length, Byte}
+use Rattle.parity.specs.declared.SymbolFault.TheVariants.{Length}
 use Rattle.levels.specs.Faults.{level_fault}
 use Rattle.levels.specs.Refused.{level_refusal}
 use Rattle.levels.specs.declared.fault.LevelFault.{LevelFault}
@@ -20,10 +21,6 @@ in_turn None o = option_map Symbols o
 abbrev pub score_fault : List Float → List ℕ → Option ScoreFault
 score_fault xs w = cond (length w == 162) (in_turn (level_fault 972 xs) (symbol_fault 162 w)) (Some (Symbols Length))
 
-abbrev refuse : ℕ → ℕ → Refusal
-refuse n p = record { number = n; layer = Decoder; place = p }
-
 abbrev pub score_refusal : ScoreFault → Refusal
 score_refusal (Levels e) = level_refusal Decoder e
-score_refusal (Symbols Length) = refuse 1 0
-score_refusal (Symbols (Byte k)) = refuse 8 k
+score_refusal (Symbols e) = symbol_refusal Decoder e

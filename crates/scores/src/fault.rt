@@ -37,15 +37,9 @@ impl ScoreFault {
     pub fn refusal(self) -> Refusal
         ensures { result ≡ score_refusal self }
     {
-        let (number, place) = match self {
-            ScoreFault::Levels(fault) => return fault.refusal(Layer::Decoder),
-            ScoreFault::Symbols(SymbolFault::Length) => (1, 0),
-            ScoreFault::Symbols(SymbolFault::Byte(index)) => (8, index),
-        };
-        Refusal {
-            number,
-            layer: Layer::Decoder,
-            place,
+        match self {
+            ScoreFault::Levels(fault) => fault.refusal(Layer::Decoder),
+            ScoreFault::Symbols(fault) => fault.refusal(Layer::Decoder),
         }
     }
 }

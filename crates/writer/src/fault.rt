@@ -2,7 +2,7 @@
 ghost use Rattle.std.specs.Prelude.{◌≡◌};
 ghost use Rattle.writer.specs.Refused.{writer_refusal};
 
-use refusal::{Layer, Refusal};
+use refusal::{Layer, Reason, Refusal};
 
 /// Why a draft is not begun, a block not put, or a draft not sealed.
 #[derive(Clone, Copy, PartialEq, Debug)]
@@ -28,17 +28,17 @@ impl WriterFault {
     pub fn refusal(self) -> Refusal
         ensures { result ≡ writer_refusal self }
     {
-        let (number, place) = match self {
-            WriterFault::Length => (1, 0),
-            WriterFault::UnknownType(number) => (11, number as usize),
-            WriterFault::Second => (12, 6),
-            WriterFault::OtherType(block) => (15, block as usize),
-            WriterFault::AlreadyPut(block) => (16, block as usize),
-            WriterFault::Field(bit) => (13, bit),
-            WriterFault::Missing(block) => (17, block as usize),
+        let (reason, place) = match self {
+            WriterFault::Length => (Reason::WrongLength, 0),
+            WriterFault::UnknownType(number) => (Reason::WrongType, number as usize),
+            WriterFault::Second => (Reason::LateSecond, 6),
+            WriterFault::OtherType(block) => (Reason::OtherBlock, block as usize),
+            WriterFault::AlreadyPut(block) => (Reason::BlockTwice, block as usize),
+            WriterFault::Field(bit) => (Reason::OutOfRange, bit),
+            WriterFault::Missing(block) => (Reason::NoBlock, block as usize),
         };
         Refusal {
-            number,
+            reason,
             layer: Layer::Writer,
             place,
         }
