@@ -1,5 +1,5 @@
 -- Each field of a type of message with the place of its first bit.
-use Rattle.std.specs.Prelude.{ℕ, ◌+◌, Bool, true, false, cond, List, [], ◌∷◌, ◌++◌}
+use Rattle.std.specs.Prelude.{◌≡◌, ℕ, ◌+◌, Bool, true, false, cond, List, [], ◌∷◌, ◌++◌}
 use Rattle.std.specs.Bool.{beq}
 use Rattle.layout.specs.declared.Field.{Field}
 use Rattle.layout.specs.declared.MessageType.{MessageType}
@@ -44,6 +44,10 @@ is_reserved EarthOrientation = false
 is_reserved Accuracy = false
 is_reserved Health = false
 is_reserved Opaque = false
+
+-- the answers of a test are those of a function
+abbrev pub Decided : (Part → Bool → Type 0) → (Part → Bool) → Type 0
+Decided answers keep = (p : Part) (b : Bool) → answers p b → b ≡ keep p
 
 -- a search for reserved bits looks at the parts that are reserved, and one for parameters at the others
 abbrev pub looks_at : Bool → Part → Bool

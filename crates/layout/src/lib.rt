@@ -5,11 +5,11 @@
 //! From the layout come two searches of a message: for a reserved bit that is set, and for a field out of its range.
 #![tactic(auto)]
 
-ghost use Rattle.std.specs.Prelude.{◌≡◌, ◌+◌, ◌^◌, ◌<◌, ◌≤◌, pos, None};
+ghost use Rattle.std.specs.Prelude.{◌≡◌, ◌+◌, ◌^◌, ◌<◌, ◌≤◌, Bool, pos, None};
 ghost use Rattle.std.specs.List.{AllByRecursion};
 ghost use Rattle.bits.specs.Bits.{bits_of};
 ghost use Rattle.layout.specs.Layout.{fields_of, widths, width_of, parts_of, number_of, Typed};
-ghost use Rattle.layout.specs.Placed.{at as placed_at, placed, kept, spread, is_reserved, looks_at, reserved_of, parameters_of};
+ghost use Rattle.layout.specs.Placed.{at as placed_at, placed, spread, is_reserved, reserved_of, Decided, parameters_of};
 ghost use Rattle.layout.specs.Ranges.{count_of, held, Sized, outside, first_outside, First};
 ghost use Rattle.layout.specs.Laws.{Tiles, FirstBits, Ruled};
 
@@ -216,26 +216,21 @@ pub fn first_outside_in(part: Part, from: usize, symbols: &[u8; 81]) -> Option<u
     }
 }
 
-/// The same over the fields of a part that begins at bit `from`. The search looks at reserved parts alone, or at the others alone.
-fn first_in_part(part: Part, reserved: bool, from: usize, symbols: &[u8; 81]) -> Option<usize>
-    requires { from + width_of part ≤ 486 }
-    ensures { result ≡ first_outside (kept (looks_at reserved) from part) (bits_of symbols.now) }
-{
-    if is_reserved(part) == reserved {
-        first_outside_in(part, from, symbols)
-    } else {
-        None
-    }
-}
-
-/// The same over all parts of a type.
-fn first_in_parts(kind: MessageType, reserved: bool, symbols: &[u8; 81]) -> Option<usize>
-    ensures { result ≡ first_outside (spread (looks_at reserved) 26 (parts_of kind)) (bits_of symbols.now) }
+/// The same over all parts of a type that the test keeps.
+fn first_in_parts<F: Fn(Part) -> bool>(
+    kind: MessageType,
+    keeps: F,
+    symbols: &[u8; 81],
+) -> Option<usize>
+    requires { F.IsAlwaysCallable keeps }
+    ensures { (keep : Part → Bool) → Decided (F.post keeps) keep → result ≡ first_outside (spread keep 26 (parts_of kind)) (bits_of symbols.now) }
 {
     let mut at = 26;
     for part in parts(kind) {
-        if let Some(bit) = first_in_part(*part, reserved, at, symbols) {
-            return Some(bit);
+        if keeps(*part) {
+            if let Some(bit) = first_outside_in(*part, at, symbols) {
+                return Some(bit);
+            }
         }
         at += width(*part);
     }
@@ -247,7 +242,7 @@ pub fn first_set_reserved(kind: MessageType, symbols: &[u8; 81]) -> Option<usize
     ensures same { result ≡ first_outside (reserved_of kind) (bits_of symbols.now) }
     ensures first { First (reserved_of kind) (bits_of symbols.now) result }
 {
-    first_in_parts(kind, true, symbols)
+    first_in_parts(kind, is_reserved, symbols)
 }
 
 /// The first bit of the first field out of its range, reserved bits aside.
@@ -255,5 +250,5 @@ pub fn first_out_of_range(kind: MessageType, symbols: &[u8; 81]) -> Option<usize
     ensures same { result ≡ first_outside (parameters_of kind) (bits_of symbols.now) }
     ensures first { First (parameters_of kind) (bits_of symbols.now) result }
 {
-    first_in_parts(kind, false, symbols)
+    first_in_parts(kind, |part| !is_reserved(part), symbols)
 }

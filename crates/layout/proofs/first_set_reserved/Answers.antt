@@ -1,10 +1,12 @@
+use Rattle.std.proofs.Common.{true, ◌∙◌}
 use Rattle.bits.specs.Bits.{bits_of}
-use Rattle.layout.specs.Placed.{reserved_of}
+use Rattle.layout.specs.Placed.{reserved_of, looks_at}
 use Rattle.layout.proofs.Ranges.{first}
+use Rattle.layout.proofs.Walk.{looked}
 use Rattle.layout.proofs.first_set_reserved.Goals as goal
 
 pub returns : goal.returns
 unfolding reserved_of
 returns c =
-    let e = c.first_in_parts.ensures in
+    let e = c.first_in_parts.ensures (looks_at true) (λ p b e. e.1 ∙ looked p) in
     record { same = e; first = first (reserved_of c.args.kind) (bits_of c.args.symbols.now) c.first_in_parts.result e }
