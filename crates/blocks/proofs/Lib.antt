@@ -1,6 +1,7 @@
+mod Reading
 pub mod Accepted
 pub mod Packed
 pub mod Placing
-mod Reading
 pub mod Signs
+pub mod Standing
 pub mod Written

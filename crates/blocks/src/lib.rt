@@ -29,26 +29,20 @@ use place::Place;
 ///
 /// The meaning of a record is the list of its counts, in the order of the layout's fields.
 pub trait Block {
-    /// The number of the block, 1 to 11.
-    const NUMBER: u8;
-    /// Its first bit in a message.
-    const FIRST_BIT: usize;
     /// Its width in bits.
     const WIDTH: usize;
+    /// Where it stands in a message.
+    const PLACE: Place;
     /// The counts of its fields.
     type Record: Copy;
 
-    ghost site: { Place };
+    ghost PLACE: { Place };
 
     ghost size: { ℕ };
 
     ghost counts: { Self.Record → List ℤ };
 
     ghost made: { List ℤ → Self.Record };
-
-    /// Where the block stands in a message.
-    fn place() -> Place
-        ensures { result ≡ site };
 
     /// The record whose counts are all 0.
     fn zero() -> Self::Record
@@ -62,7 +56,7 @@ pub trait Block {
     fn set_count(of: &mut Self::Record, i: usize, z: i64)
         ensures { counts of.new ≡ slice_set (counts of.old) i z };
 
-    ghost stands: { Stands site size };
+    ghost stands: { Stands PLACE size };
 
     ghost counted: { (r : Self.Record) → length (counts r) ≡ size };
 
@@ -71,9 +65,9 @@ pub trait Block {
 
 /// The counts of the block's fields in a message.
 fn get_counts<K: Block>(symbols: &[u8; 81]) -> K::Record
-    ensures { K.counts result ≡ held_in K.site symbols.now }
+    ensures { K.counts result ≡ held_in K.PLACE symbols.now }
 {
-    let place = K::place();
+    let place = K::PLACE;
     let mut found = K::zero();
     let mut at = place.first_bit;
     let all = fields(place.part);
@@ -92,11 +86,11 @@ fn is_of(message: &Message, kind: MessageType) -> bool
 }
 
 fn read_in_turn<K: Block>(bytes: &[u8]) -> Result<K::Record, BlockFault>
-    ensures answer { result ≡ read_as K.site K.made bytes.now }
-    ensures held { IfOk result (λ got. (K.counts got ≡ held_in K.site bytes.now) × (length bytes.now ≡ 81)) }
+    ensures answer { result ≡ read_as K.PLACE K.made bytes.now }
+    ensures held { IfOk result (λ got. (K.counts got ≡ held_in K.PLACE bytes.now) × (length bytes.now ≡ 81)) }
 {
     let message = Message::new(bytes)?;
-    let place = K::place();
+    let place = K::PLACE;
     if !is_of(&message, place.message_type) {
         return Err(BlockFault::OtherType(place.number));
     }
@@ -110,9 +104,9 @@ fn read_in_turn<K: Block>(bytes: &[u8]) -> Result<K::Record, BlockFault>
 ///
 /// Writing what was read gives the same bits. In a message that `check` accepts every block of its type is read.
 pub fn read<K: Block>(bytes: &[u8]) -> Result<K::Record, BlockFault>
-    ensures answer { result ≡ read_as K.site K.made bytes.now }
-    ensures writes { IfOk result (λ got. written_over K.site (K.counts got) (bits_of bytes.now) ≡ bits_of bytes.now) }
-    ensures accepted { (w : List ℕ) → is_ok (checked w) ≡ true → bytes.now ≡ take 81 w → is_of K.site.message_type bytes.now ≡ true → is_ok result ≡ true }
+    ensures answer { result ≡ read_as K.PLACE K.made bytes.now }
+    ensures writes { IfOk result (λ got. written_over K.PLACE (K.counts got) (bits_of bytes.now) ≡ bits_of bytes.now) }
+    ensures accepted { (w : List ℕ) → is_ok (checked w) ≡ true → bytes.now ≡ take 81 w → is_of K.PLACE.message_type bytes.now ≡ true → is_ok result ≡ true }
 {
     read_in_turn::<K>(bytes)
 }
@@ -131,9 +125,9 @@ fn raw_of(width: usize, z: i64) -> u64
 
 /// The first bit of the first field that may not hold its count: what `write` would refuse a record for.
 pub fn first_unfit<K: Block>(of: &K::Record) -> Option<usize>
-    ensures { result ≡ first_unfit (placed_of K.site) (K.counts of.now) }
+    ensures { result ≡ first_unfit (placed_of K.PLACE) (K.counts of.now) }
 {
-    let place = K::place();
+    let place = K::PLACE;
     let mut at = place.first_bit;
     let all = fields(place.part);
     for (i, field) in all.iter().enumerate() {
@@ -147,11 +141,11 @@ pub fn first_unfit<K: Block>(of: &K::Record) -> Option<usize>
 
 /// Writes the counts over the block's bits.
 fn put_counts<K: Block>(of: &K::Record, symbols: &mut [u8])
-    requires { (81 ≤ length symbols.old) × (first_unfit (placed_of K.site) (K.counts of.now) ≡ None) }
-    ensures bits { bits_of symbols.new ≡ written_over K.site (K.counts of.now) (bits_of symbols.old) }
+    requires { (81 ≤ length symbols.old) × (first_unfit (placed_of K.PLACE) (K.counts of.now) ≡ None) }
+    ensures bits { bits_of symbols.new ≡ written_over K.PLACE (K.counts of.now) (bits_of symbols.old) }
     ensures small { (k : ℕ) → slice_index symbols.old k < 64 → slice_index symbols.new k < 64 }
 {
-    let place = K::place();
+    let place = K::PLACE;
     let mut at = place.first_bit;
     let all = fields(place.part);
     for (i, field) in all.iter().enumerate() {
@@ -165,11 +159,11 @@ fn put_counts<K: Block>(of: &K::Record, symbols: &mut [u8])
 ///
 /// No other bit changes, and a byte below 64 stays below 64. Reading what was written gives the record.
 pub fn write<K: Block>(of: &K::Record, symbols: &mut [u8]) -> Result<(), BlockFault>
-    ensures answer { result ≡ write_answer K.site (K.counts of.now) (length symbols.old) }
-    ensures written { is_ok result ≡ true → bits_of symbols.new ≡ written_over K.site (K.counts of.now) (bits_of symbols.old) }
+    ensures answer { result ≡ write_answer K.PLACE (K.counts of.now) (length symbols.old) }
+    ensures written { is_ok result ≡ true → bits_of symbols.new ≡ written_over K.PLACE (K.counts of.now) (bits_of symbols.old) }
     ensures kept { is_ok result ≡ false → symbols.new ≡ symbols.old }
     ensures small { (k : ℕ) → slice_index symbols.old k < 64 → slice_index symbols.new k < 64 }
-    ensures back { is_ok result ≡ true → SymbolList 81 (take 81 symbols.old) → is_of K.site.message_type (take 81 symbols.old) ≡ true → read_as K.site K.made (take 81 symbols.new) ≡ Ok of.now }
+    ensures back { is_ok result ≡ true → SymbolList 81 (take 81 symbols.old) → is_of K.PLACE.message_type (take 81 symbols.old) ≡ true → read_as K.PLACE K.made (take 81 symbols.new) ≡ Ok of.now }
 {
     if symbols.len() < 81 {
         return Err(BlockFault::Symbols(SymbolFault::Length));

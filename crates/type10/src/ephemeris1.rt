@@ -1,10 +1,9 @@
 //! Ephemeris I: the shape of the orbit.
 ghost use Rattle.layout.specs.declared.MessageType.TheVariants.{Type10};
-ghost use Rattle.layout.specs.declared.Part.TheVariants.{Ephemeris1 as OfEphemeris1};
-ghost use Rattle.type10.specs.Ephemeris1Counts.{counts_of, record_of};
-ghost use Rattle.std.proofs.Math.Path.{◌≡◌};
-ghost use Rattle.std.specs.Prelude.{refl, ℕ};
-ghost use Rattle.std.proofs.Common.{arith, rules};
+ghost use Rattle.type10.specs.Ephemeris1Counts.{counts_of, place_of, record_of};
+ghost use Rattle.std.specs.Prelude.{refl};
+ghost use Rattle.blocks.proofs.Standing.{stands_at};
+ghost use Rattle.std.proofs.Common.{rules};
 ghost use Rattle.std.proofs.Math.Dec.{lit<};
 ghost use Rattle.layout.specs.Layout.{fields_of, parts_of, width_of};
 
@@ -16,7 +15,7 @@ use layout::{MessageType, Part};
 /// The block, number 1.
 pub struct Ephemeris1;
 
-#[derive(Clone, Copy, PartialEq)]
+#[derive(Clone, Copy, PartialEq, Default)]
 pub struct Ephemeris1Record {
     /// t_oe: reference time of the ephemeris, scale 300 s.
     pub t_oe: i64,
@@ -39,15 +38,19 @@ pub struct Ephemeris1Record {
 }
 
 impl Block for Ephemeris1 {
-    const NUMBER: u8 = 1;
-
-    const FIRST_BIT: usize = 30;
-
     const WIDTH: usize = 203;
+
+    const PLACE: Place = Place {
+        number: 1,
+        message_type: MessageType::Type10,
+        part: Part::Ephemeris1,
+        first_bit: 30,
+        width: Self::WIDTH,
+    };
 
     type Record = Ephemeris1Record;
 
-    ghost site = { record { number = 1; message_type = Type10; part = OfEphemeris1; first_bit = 30; width = 203 } };
+    ghost PLACE = { place_of };
 
     ghost size = { 9 };
 
@@ -55,44 +58,14 @@ impl Block for Ephemeris1 {
 
     ghost made = { record_of };
 
-    ghost stands = { unfold fields_of parts_of width_of in
-        record {
-          index = 1;
-          inside = lit< tt;
-          part = refl;
-          first = refl;
-          width = refl;
-          fields = refl;
-          used = refl;
-          apart = λ e. let z : ◌≡◌ {A = ℕ} 0 1 = cc in omega arith;
-        } };
+    ghost stands = { unfold fields_of parts_of width_of in stands_at Type10 1 0 (lit< tt) refl };
 
     ghost counted = { Prim.search rules };
 
     ghost back = { Prim.search rules };
 
-    fn place() -> Place {
-        Place {
-            number: Self::NUMBER,
-            message_type: MessageType::Type10,
-            part: Part::Ephemeris1,
-            first_bit: Self::FIRST_BIT,
-            width: Self::WIDTH,
-        }
-    }
-
     fn zero() -> Ephemeris1Record {
-        Ephemeris1Record {
-            t_oe: 0,
-            sat_type: 0,
-            delta_a: 0,
-            a_dot: 0,
-            delta_n0: 0,
-            delta_n0_dot: 0,
-            m0: 0,
-            e: 0,
-            omega: 0,
-        }
+        Ephemeris1Record::default()
     }
 
     fn count(of: &Ephemeris1Record, i: usize) -> i64 {

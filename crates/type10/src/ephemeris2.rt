@@ -1,10 +1,9 @@
 //! Ephemeris II: the place of the orbit, and its corrections.
 ghost use Rattle.layout.specs.declared.MessageType.TheVariants.{Type10};
-ghost use Rattle.layout.specs.declared.Part.TheVariants.{Ephemeris2 as OfEphemeris2};
-ghost use Rattle.type10.specs.Ephemeris2Counts.{counts_of, record_of};
-ghost use Rattle.std.proofs.Math.Path.{◌≡◌};
-ghost use Rattle.std.specs.Prelude.{refl, ℕ};
-ghost use Rattle.std.proofs.Common.{arith, rules};
+ghost use Rattle.type10.specs.Ephemeris2Counts.{counts_of, place_of, record_of};
+ghost use Rattle.std.specs.Prelude.{refl};
+ghost use Rattle.blocks.proofs.Standing.{stands_at};
+ghost use Rattle.std.proofs.Common.{rules};
 ghost use Rattle.std.proofs.Math.Dec.{lit<};
 ghost use Rattle.layout.specs.Layout.{fields_of, parts_of, width_of};
 
@@ -16,7 +15,7 @@ use layout::{MessageType, Part};
 /// The block, number 2.
 pub struct Ephemeris2;
 
-#[derive(Clone, Copy, PartialEq)]
+#[derive(Clone, Copy, PartialEq, Default)]
 pub struct Ephemeris2Record {
     /// Omega0: longitude of the ascending node at the start of the week, scale 2^-32 pi.
     pub omega0: i64,
@@ -41,15 +40,19 @@ pub struct Ephemeris2Record {
 }
 
 impl Block for Ephemeris2 {
-    const NUMBER: u8 = 2;
-
-    const FIRST_BIT: usize = 233;
-
     const WIDTH: usize = 222;
+
+    const PLACE: Place = Place {
+        number: 2,
+        message_type: MessageType::Type10,
+        part: Part::Ephemeris2,
+        first_bit: 233,
+        width: Self::WIDTH,
+    };
 
     type Record = Ephemeris2Record;
 
-    ghost site = { record { number = 2; message_type = Type10; part = OfEphemeris2; first_bit = 233; width = 222 } };
+    ghost PLACE = { place_of };
 
     ghost size = { 10 };
 
@@ -57,45 +60,14 @@ impl Block for Ephemeris2 {
 
     ghost made = { record_of };
 
-    ghost stands = { unfold fields_of parts_of width_of in
-        record {
-          index = 2;
-          inside = lit< tt;
-          part = refl;
-          first = refl;
-          width = refl;
-          fields = refl;
-          used = refl;
-          apart = λ e. let z : ◌≡◌ {A = ℕ} 0 1 = cc in omega arith;
-        } };
+    ghost stands = { unfold fields_of parts_of width_of in stands_at Type10 2 1 (lit< tt) refl };
 
     ghost counted = { Prim.search rules };
 
     ghost back = { Prim.search rules };
 
-    fn place() -> Place {
-        Place {
-            number: Self::NUMBER,
-            message_type: MessageType::Type10,
-            part: Part::Ephemeris2,
-            first_bit: Self::FIRST_BIT,
-            width: Self::WIDTH,
-        }
-    }
-
     fn zero() -> Ephemeris2Record {
-        Ephemeris2Record {
-            omega0: 0,
-            i0: 0,
-            omega_dot: 0,
-            i0_dot: 0,
-            cis: 0,
-            cic: 0,
-            crs: 0,
-            crc: 0,
-            cus: 0,
-            cuc: 0,
-        }
+        Ephemeris2Record::default()
     }
 
     fn count(of: &Ephemeris2Record, i: usize) -> i64 {

@@ -1,10 +1,9 @@
 //! Integrity flags.
 ghost use Rattle.layout.specs.declared.MessageType.TheVariants.{Type10};
-ghost use Rattle.layout.specs.declared.Part.TheVariants.{Integrity as OfIntegrity};
-ghost use Rattle.type10.specs.IntegrityCounts.{counts_of, record_of};
-ghost use Rattle.std.proofs.Math.Path.{◌≡◌};
-ghost use Rattle.std.specs.Prelude.{refl, ℕ};
-ghost use Rattle.std.proofs.Common.{arith, rules};
+ghost use Rattle.type10.specs.IntegrityCounts.{counts_of, place_of, record_of};
+ghost use Rattle.std.specs.Prelude.{refl};
+ghost use Rattle.blocks.proofs.Standing.{stands_at};
+ghost use Rattle.std.proofs.Common.{rules};
 ghost use Rattle.std.proofs.Math.Dec.{lit<};
 ghost use Rattle.layout.specs.Layout.{fields_of, parts_of, width_of};
 
@@ -16,7 +15,7 @@ use layout::{MessageType, Part};
 /// The block, number 3.
 pub struct Integrity;
 
-#[derive(Clone, Copy, PartialEq)]
+#[derive(Clone, Copy, PartialEq, Default)]
 pub struct IntegrityRecord {
     /// DIF: 1: the error of the message parameters exceeds the predicted accuracy.
     pub dif: i64,
@@ -29,15 +28,19 @@ pub struct IntegrityRecord {
 }
 
 impl Block for Integrity {
-    const NUMBER: u8 = 3;
-
-    const FIRST_BIT: usize = 455;
-
     const WIDTH: usize = 7;
+
+    const PLACE: Place = Place {
+        number: 3,
+        message_type: MessageType::Type10,
+        part: Part::Integrity,
+        first_bit: 455,
+        width: Self::WIDTH,
+    };
 
     type Record = IntegrityRecord;
 
-    ghost site = { record { number = 3; message_type = Type10; part = OfIntegrity; first_bit = 455; width = 7 } };
+    ghost PLACE = { place_of };
 
     ghost size = { 4 };
 
@@ -45,39 +48,14 @@ impl Block for Integrity {
 
     ghost made = { record_of };
 
-    ghost stands = { unfold fields_of parts_of width_of in
-        record {
-          index = 3;
-          inside = lit< tt;
-          part = refl;
-          first = refl;
-          width = refl;
-          fields = refl;
-          used = refl;
-          apart = λ e. let z : ◌≡◌ {A = ℕ} 0 1 = cc in omega arith;
-        } };
+    ghost stands = { unfold fields_of parts_of width_of in stands_at Type10 3 2 (lit< tt) refl };
 
     ghost counted = { Prim.search rules };
 
     ghost back = { Prim.search rules };
 
-    fn place() -> Place {
-        Place {
-            number: Self::NUMBER,
-            message_type: MessageType::Type10,
-            part: Part::Integrity,
-            first_bit: Self::FIRST_BIT,
-            width: Self::WIDTH,
-        }
-    }
-
     fn zero() -> IntegrityRecord {
-        IntegrityRecord {
-            dif: 0,
-            sif: 0,
-            aif: 0,
-            sismai: 0,
-        }
+        IntegrityRecord::default()
     }
 
     fn count(of: &IntegrityRecord, i: usize) -> i64 {

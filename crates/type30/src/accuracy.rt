@@ -1,9 +1,9 @@
 //! Indices of the signal accuracy.
 ghost use Rattle.layout.specs.declared.MessageType.TheVariants.{Type30};
-ghost use Rattle.layout.specs.declared.Part.TheVariants.{Accuracy as OfAccuracy};
-ghost use Rattle.type30.specs.AccuracyCounts.{counts_of, record_of};
-ghost use Rattle.std.specs.Prelude.{◌≡◌, ℕ, refl};
-ghost use Rattle.std.proofs.Common.{arith, rules};
+ghost use Rattle.type30.specs.AccuracyCounts.{counts_of, place_of, record_of};
+ghost use Rattle.std.specs.Prelude.{refl};
+ghost use Rattle.blocks.proofs.Standing.{stands_at};
+ghost use Rattle.std.proofs.Common.{rules};
 ghost use Rattle.std.proofs.Math.Dec.{lit<};
 ghost use Rattle.layout.specs.Layout.{fields_of, parts_of, width_of};
 
@@ -15,7 +15,7 @@ use layout::{MessageType, Part};
 /// The block, number 10.
 pub struct Accuracy;
 
-#[derive(Clone, Copy, PartialEq)]
+#[derive(Clone, Copy, PartialEq, Default)]
 pub struct AccuracyRecord {
     /// t_op: time of week of the prediction.
     pub t_op: i64,
@@ -30,15 +30,19 @@ pub struct AccuracyRecord {
 }
 
 impl Block for Accuracy {
-    const NUMBER: u8 = 10;
-
-    const FIRST_BIT: usize = 433;
-
     const WIDTH: usize = 27;
+
+    const PLACE: Place = Place {
+        number: 10,
+        message_type: MessageType::Type30,
+        part: Part::Accuracy,
+        first_bit: 433,
+        width: Self::WIDTH,
+    };
 
     type Record = AccuracyRecord;
 
-    ghost site = { record { number = 10; message_type = Type30; part = OfAccuracy; first_bit = 433; width = 27 } };
+    ghost PLACE = { place_of };
 
     ghost size = { 5 };
 
@@ -46,40 +50,14 @@ impl Block for Accuracy {
 
     ghost made = { record_of };
 
-    ghost stands = { unfold fields_of parts_of width_of in
-        record {
-          index = 7;
-          inside = lit< tt;
-          part = refl;
-          first = refl;
-          width = refl;
-          fields = refl;
-          used = refl;
-          apart = λ e. let z : ◌≡◌ {A = ℕ} 0 1 = cc in omega arith;
-        } };
+    ghost stands = { unfold fields_of parts_of width_of in stands_at Type30 7 9 (lit< tt) refl };
 
     ghost counted = { Prim.search rules };
 
     ghost back = { Prim.search rules };
 
-    fn place() -> Place {
-        Place {
-            number: Self::NUMBER,
-            message_type: MessageType::Type30,
-            part: Part::Accuracy,
-            first_bit: Self::FIRST_BIT,
-            width: Self::WIDTH,
-        }
-    }
-
     fn zero() -> AccuracyRecord {
-        AccuracyRecord {
-            t_op: 0,
-            sisai_ocb: 0,
-            sisai_oc1: 0,
-            sisai_oc2: 0,
-            sisai_oe: 0,
-        }
+        AccuracyRecord::default()
     }
 
     fn count(of: &AccuracyRecord, i: usize) -> i64 {

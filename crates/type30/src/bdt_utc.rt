@@ -1,9 +1,9 @@
 //! BeiDou time against UTC.
 ghost use Rattle.layout.specs.declared.MessageType.TheVariants.{Type30};
-ghost use Rattle.layout.specs.declared.Part.TheVariants.{BdtUtc as OfBdtUtc};
-ghost use Rattle.type30.specs.BdtUtcCounts.{counts_of, record_of};
-ghost use Rattle.std.specs.Prelude.{◌≡◌, ℕ, refl};
-ghost use Rattle.std.proofs.Common.{arith, rules};
+ghost use Rattle.type30.specs.BdtUtcCounts.{counts_of, place_of, record_of};
+ghost use Rattle.std.specs.Prelude.{refl};
+ghost use Rattle.blocks.proofs.Standing.{stands_at};
+ghost use Rattle.std.proofs.Common.{rules};
 ghost use Rattle.std.proofs.Math.Dec.{lit<};
 ghost use Rattle.layout.specs.Layout.{fields_of, parts_of, width_of};
 
@@ -15,7 +15,7 @@ use layout::{MessageType, Part};
 /// The block, number 8.
 pub struct BdtUtc;
 
-#[derive(Clone, Copy, PartialEq)]
+#[derive(Clone, Copy, PartialEq, Default)]
 pub struct BdtUtcRecord {
     /// A0_UTC: bias of BeiDou time against UTC, scale 2^-35 s.
     pub a0_utc: i64,
@@ -38,15 +38,19 @@ pub struct BdtUtcRecord {
 }
 
 impl Block for BdtUtc {
-    const NUMBER: u8 = 8;
-
-    const FIRST_BIT: usize = 198;
-
     const WIDTH: usize = 97;
+
+    const PLACE: Place = Place {
+        number: 8,
+        message_type: MessageType::Type30,
+        part: Part::BdtUtc,
+        first_bit: 198,
+        width: Self::WIDTH,
+    };
 
     type Record = BdtUtcRecord;
 
-    ghost site = { record { number = 8; message_type = Type30; part = OfBdtUtc; first_bit = 198; width = 97 } };
+    ghost PLACE = { place_of };
 
     ghost size = { 9 };
 
@@ -54,44 +58,14 @@ impl Block for BdtUtc {
 
     ghost made = { record_of };
 
-    ghost stands = { unfold fields_of parts_of width_of in
-        record {
-          index = 5;
-          inside = lit< tt;
-          part = refl;
-          first = refl;
-          width = refl;
-          fields = refl;
-          used = refl;
-          apart = λ e. let z : ◌≡◌ {A = ℕ} 0 1 = cc in omega arith;
-        } };
+    ghost stands = { unfold fields_of parts_of width_of in stands_at Type30 5 7 (lit< tt) refl };
 
     ghost counted = { Prim.search rules };
 
     ghost back = { Prim.search rules };
 
-    fn place() -> Place {
-        Place {
-            number: Self::NUMBER,
-            message_type: MessageType::Type30,
-            part: Part::BdtUtc,
-            first_bit: Self::FIRST_BIT,
-            width: Self::WIDTH,
-        }
-    }
-
     fn zero() -> BdtUtcRecord {
-        BdtUtcRecord {
-            a0_utc: 0,
-            a1_utc: 0,
-            a2_utc: 0,
-            dt_ls: 0,
-            t_ot: 0,
-            wn_ot: 0,
-            wn_lsf: 0,
-            dn: 0,
-            dt_lsf: 0,
-        }
+        BdtUtcRecord::default()
     }
 
     fn count(of: &BdtUtcRecord, i: usize) -> i64 {

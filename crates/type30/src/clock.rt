@@ -1,9 +1,9 @@
 //! The clock of the satellite.
 ghost use Rattle.layout.specs.declared.MessageType.TheVariants.{Type30};
-ghost use Rattle.layout.specs.declared.Part.TheVariants.{Clock as OfClock};
-ghost use Rattle.type30.specs.ClockCounts.{counts_of, record_of};
-ghost use Rattle.std.specs.Prelude.{◌≡◌, ℕ, refl};
-ghost use Rattle.std.proofs.Common.{arith, rules};
+ghost use Rattle.type30.specs.ClockCounts.{counts_of, place_of, record_of};
+ghost use Rattle.std.specs.Prelude.{refl};
+ghost use Rattle.blocks.proofs.Standing.{stands_at};
+ghost use Rattle.std.proofs.Common.{rules};
 ghost use Rattle.std.proofs.Math.Dec.{lit<};
 ghost use Rattle.layout.specs.Layout.{fields_of, parts_of, width_of};
 
@@ -15,7 +15,7 @@ use layout::{MessageType, Part};
 /// The block, number 5.
 pub struct Clock;
 
-#[derive(Clone, Copy, PartialEq)]
+#[derive(Clone, Copy, PartialEq, Default)]
 pub struct ClockRecord {
     /// t_oc: reference time of the clock, scale 300 s.
     pub t_oc: i64,
@@ -28,15 +28,19 @@ pub struct ClockRecord {
 }
 
 impl Block for Clock {
-    const NUMBER: u8 = 5;
-
-    const FIRST_BIT: usize = 43;
-
     const WIDTH: usize = 69;
+
+    const PLACE: Place = Place {
+        number: 5,
+        message_type: MessageType::Type30,
+        part: Part::Clock,
+        first_bit: 43,
+        width: Self::WIDTH,
+    };
 
     type Record = ClockRecord;
 
-    ghost site = { record { number = 5; message_type = Type30; part = OfClock; first_bit = 43; width = 69 } };
+    ghost PLACE = { place_of };
 
     ghost size = { 4 };
 
@@ -44,39 +48,14 @@ impl Block for Clock {
 
     ghost made = { record_of };
 
-    ghost stands = { unfold fields_of parts_of width_of in
-        record {
-          index = 2;
-          inside = lit< tt;
-          part = refl;
-          first = refl;
-          width = refl;
-          fields = refl;
-          used = refl;
-          apart = λ e. let z : ◌≡◌ {A = ℕ} 0 1 = cc in omega arith;
-        } };
+    ghost stands = { unfold fields_of parts_of width_of in stands_at Type30 2 4 (lit< tt) refl };
 
     ghost counted = { Prim.search rules };
 
     ghost back = { Prim.search rules };
 
-    fn place() -> Place {
-        Place {
-            number: Self::NUMBER,
-            message_type: MessageType::Type30,
-            part: Part::Clock,
-            first_bit: Self::FIRST_BIT,
-            width: Self::WIDTH,
-        }
-    }
-
     fn zero() -> ClockRecord {
-        ClockRecord {
-            t_oc: 0,
-            a0: 0,
-            a1: 0,
-            a2: 0,
-        }
+        ClockRecord::default()
     }
 
     fn count(of: &ClockRecord, i: usize) -> i64 {

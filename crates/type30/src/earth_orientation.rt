@@ -1,9 +1,9 @@
 //! The orientation of the earth.
 ghost use Rattle.layout.specs.declared.MessageType.TheVariants.{Type30};
-ghost use Rattle.layout.specs.declared.Part.TheVariants.{EarthOrientation as OfEarthOrientation};
-ghost use Rattle.type30.specs.EarthOrientationCounts.{counts_of, record_of};
-ghost use Rattle.std.specs.Prelude.{◌≡◌, ℕ, refl};
-ghost use Rattle.std.proofs.Common.{arith, rules};
+ghost use Rattle.type30.specs.EarthOrientationCounts.{counts_of, place_of, record_of};
+ghost use Rattle.std.specs.Prelude.{refl};
+ghost use Rattle.blocks.proofs.Standing.{stands_at};
+ghost use Rattle.std.proofs.Common.{rules};
 ghost use Rattle.std.proofs.Math.Dec.{lit<};
 ghost use Rattle.layout.specs.Layout.{fields_of, parts_of, width_of};
 
@@ -15,7 +15,7 @@ use layout::{MessageType, Part};
 /// The block, number 9.
 pub struct EarthOrientation;
 
-#[derive(Clone, Copy, PartialEq)]
+#[derive(Clone, Copy, PartialEq, Default)]
 pub struct EarthOrientationRecord {
     /// t_EOP: reference time, scale 2^4 s.
     pub t_eop: i64,
@@ -34,15 +34,19 @@ pub struct EarthOrientationRecord {
 }
 
 impl Block for EarthOrientation {
-    const NUMBER: u8 = 9;
-
-    const FIRST_BIT: usize = 295;
-
     const WIDTH: usize = 138;
+
+    const PLACE: Place = Place {
+        number: 9,
+        message_type: MessageType::Type30,
+        part: Part::EarthOrientation,
+        first_bit: 295,
+        width: Self::WIDTH,
+    };
 
     type Record = EarthOrientationRecord;
 
-    ghost site = { record { number = 9; message_type = Type30; part = OfEarthOrientation; first_bit = 295; width = 138 } };
+    ghost PLACE = { place_of };
 
     ghost size = { 7 };
 
@@ -50,42 +54,14 @@ impl Block for EarthOrientation {
 
     ghost made = { record_of };
 
-    ghost stands = { unfold fields_of parts_of width_of in
-        record {
-          index = 6;
-          inside = lit< tt;
-          part = refl;
-          first = refl;
-          width = refl;
-          fields = refl;
-          used = refl;
-          apart = λ e. let z : ◌≡◌ {A = ℕ} 0 1 = cc in omega arith;
-        } };
+    ghost stands = { unfold fields_of parts_of width_of in stands_at Type30 6 8 (lit< tt) refl };
 
     ghost counted = { Prim.search rules };
 
     ghost back = { Prim.search rules };
 
-    fn place() -> Place {
-        Place {
-            number: Self::NUMBER,
-            message_type: MessageType::Type30,
-            part: Part::EarthOrientation,
-            first_bit: Self::FIRST_BIT,
-            width: Self::WIDTH,
-        }
-    }
-
     fn zero() -> EarthOrientationRecord {
-        EarthOrientationRecord {
-            t_eop: 0,
-            pm_x: 0,
-            pm_x_dot: 0,
-            pm_y: 0,
-            pm_y_dot: 0,
-            dut1: 0,
-            dut1_dot: 0,
-        }
+        EarthOrientationRecord::default()
     }
 
     fn count(of: &EarthOrientationRecord, i: usize) -> i64 {

@@ -2,9 +2,9 @@
 ghost use Rattle.std.specs.Prelude.{◌≡◌, ℕ, ◌-◌, ◌≤◌, pos, negsuc, ◌<ℤ◌, Some, None, slice_index_or, refl};
 ghost use Rattle.type30.specs.Eighths.{eighths_of};
 ghost use Rattle.layout.specs.declared.MessageType.TheVariants.{Type30};
-ghost use Rattle.layout.specs.declared.Part.TheVariants.{Ionosphere as OfIonosphere};
-ghost use Rattle.type30.specs.IonosphereCounts.{counts_of, record_of};
-ghost use Rattle.std.proofs.Common.{arith, rules};
+ghost use Rattle.type30.specs.IonosphereCounts.{counts_of, place_of, record_of};
+ghost use Rattle.blocks.proofs.Standing.{stands_at};
+ghost use Rattle.std.proofs.Common.{rules};
 ghost use Rattle.std.proofs.Math.Dec.{lit<};
 ghost use Rattle.layout.specs.Layout.{fields_of, parts_of, width_of};
 
@@ -16,7 +16,7 @@ use layout::{MessageType, Part};
 /// The block, number 7.
 pub struct Ionosphere;
 
-#[derive(Clone, Copy, PartialEq)]
+#[derive(Clone, Copy, PartialEq, Default)]
 pub struct IonosphereRecord {
     /// alpha1: coefficient 1 of the ionospheric delay, scale 2^-3 TECu.
     pub alpha1: i64,
@@ -39,15 +39,19 @@ pub struct IonosphereRecord {
 }
 
 impl Block for Ionosphere {
-    const NUMBER: u8 = 7;
-
-    const FIRST_BIT: usize = 124;
-
     const WIDTH: usize = 74;
+
+    const PLACE: Place = Place {
+        number: 7,
+        message_type: MessageType::Type30,
+        part: Part::Ionosphere,
+        first_bit: 124,
+        width: Self::WIDTH,
+    };
 
     type Record = IonosphereRecord;
 
-    ghost site = { record { number = 7; message_type = Type30; part = OfIonosphere; first_bit = 124; width = 74 } };
+    ghost PLACE = { place_of };
 
     ghost size = { 9 };
 
@@ -55,44 +59,14 @@ impl Block for Ionosphere {
 
     ghost made = { record_of };
 
-    ghost stands = { unfold fields_of parts_of width_of in
-        record {
-          index = 4;
-          inside = lit< tt;
-          part = refl;
-          first = refl;
-          width = refl;
-          fields = refl;
-          used = refl;
-          apart = λ e. let z : ◌≡◌ {A = ℕ} 0 1 = cc in omega arith;
-        } };
+    ghost stands = { unfold fields_of parts_of width_of in stands_at Type30 4 6 (lit< tt) refl };
 
     ghost counted = { Prim.search rules };
 
     ghost back = { Prim.search rules };
 
-    fn place() -> Place {
-        Place {
-            number: Self::NUMBER,
-            message_type: MessageType::Type30,
-            part: Part::Ionosphere,
-            first_bit: Self::FIRST_BIT,
-            width: Self::WIDTH,
-        }
-    }
-
     fn zero() -> IonosphereRecord {
-        IonosphereRecord {
-            alpha1: 0,
-            alpha2: 0,
-            alpha3: 0,
-            alpha4: 0,
-            alpha5: 0,
-            alpha6: 0,
-            alpha7: 0,
-            alpha8: 0,
-            alpha9: 0,
-        }
+        IonosphereRecord::default()
     }
 
     fn count(of: &IonosphereRecord, i: usize) -> i64 {

@@ -13,7 +13,7 @@ use Rattle.blocks.proofs.get_counts.Goals as goal
 
 pub overflow_add-at : goal.overflow_add-at
 overflow_add-at g c =
-    let t = turn g.K.Block.site c.place-place.result g.K.Block.size g.met.K.Block.stands c.place-place.ensures
+    let t = turn g.K.Block.PLACE c.PLACE-place.result g.K.Block.size g.met.K.Block.stands c.PLACE-place.ensures
     c.fields-all.result.now c.fields-all.ensures c.loop-i.i c.loop-i.at (omega arith) c.loop-i.invariant.0 in
     record { fits = omega (arith, t.inside) }
 
@@ -25,7 +25,7 @@ loop-i-preserved g c =
     let b = g.K.Block in
     let fs = c.fields-all.result.now in
     let i = c.loop-i.i in
-    let t = turn b.site c.place-place.result b.size g.met.K.Block.stands c.place-place.ensures fs c.fields-all.ensures
+    let t = turn b.PLACE c.PLACE-place.result b.size g.met.K.Block.stands c.PLACE-place.ensures fs c.fields-all.ensures
     i c.loop-i.at (omega arith) c.loop-i.invariant.0 in
     let z = to_z-of_z w64 c.count_at.result (record { sfits = c.count_at.type_inv }) ∙ c.count_at.ensures.same t.sized (omega (arith, t.inside)) in
     let old = b.counts c.loop-i.found in
@@ -42,11 +42,11 @@ loop-i-preserved g c =
 pub returns : goal.returns
 returns g c =
     let b = g.K.Block in
-    let p = b.site in
+    let p = b.PLACE in
     let m = c.args.symbols.now in
     let fs = c.fields-all.result.now in
-    let first : c.place-place.result.first_bit ≡ p.first_bit = ap (λ (q : Place). q.first_bit) c.place-place.ensures in
-    let same : fs ≡ fields_of p.part = c.fields-all.ensures ∙ ap (λ (q : Place). fields_of q.part) c.place-place.ensures in
+    let first : c.PLACE-place.result.first_bit ≡ p.first_bit = ap (λ (q : Place). q.first_bit) c.PLACE-place.ensures in
+    let same : fs ≡ fields_of p.part = c.fields-all.ensures ∙ ap (λ (q : Place). fields_of q.part) c.PLACE-place.ensures in
     let n = g.met.K.Block.counted c.loop-i.found in
     let size = g.met.K.Block.stands.fields in
     ext_get_or (pos 0) (b.counts c.loop-i.found) (held_in p m) (n ∙ sym size ∙ sym (length_held p m))

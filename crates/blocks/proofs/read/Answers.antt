@@ -11,6 +11,6 @@ returns g c =
     let s = g.met.K.Block.stands in
     record {
       answer = c.read_in_turn.ensures.answer;
-      writes = MatchResult-weaker c.read_in_turn.result c.read_in_turn.ensures.held (λ got e. write_back b.site b.size s m (b.counts got) e.1 e.0) (λ _ h. h);
-      accepted = λ w t e f. ap is_ok c.read_in_turn.ensures.answer ∙ accepted b.site b.size s b.made m w t e f;
+      writes = MatchResult-weaker c.read_in_turn.result c.read_in_turn.ensures.held (λ got e. write_back b.PLACE b.size s m (b.counts got) e.1 e.0) (λ _ h. h);
+      accepted = λ w t e f. ap is_ok c.read_in_turn.ensures.answer ∙ accepted b.PLACE b.size s b.made m w t e f;
     }

@@ -13,38 +13,38 @@ returns-then-not-is_of g c =
     let new = c.in_ok-message.ensures in
     record {
       held = tt;
-      answer = other g.K.Block.site c.place-place.result g.K.Block.made c.args.bytes.now c.in_ok-message.message.bytes
-          c.place-place.ensures new.0 new.1 (sym c.if-not-is_of.true ∙ c.is_of.ensures);
+      answer = other g.K.Block.PLACE c.PLACE-place.result g.K.Block.made c.args.bytes.now c.in_ok-message.message.bytes
+          c.PLACE-place.ensures new.0 new.1 (sym c.if-not-is_of.true ∙ c.is_of.ensures);
     }
 
 pub returns-in-Some : goal.returns-in-Some
 returns-in-Some g c =
     let new = c.in_ok-message.ensures in
-    let p = g.K.Block.site in
+    let p = g.K.Block.PLACE in
     let w = c.in_ok-message.message.bytes in
-    let fits : c.place-place.result.first_bit + width_of c.place-place.result.part ≤ 486 =
-    omega (arith, (room p g.K.Block.size g.met.K.Block.stands).1, ap (λ (q : Place). q.first_bit + width_of q.part) c.place-place.ensures) in
+    let fits : c.PLACE-place.result.first_bit + width_of c.PLACE-place.result.part ≤ 486 =
+    omega (arith, (room p g.K.Block.size g.met.K.Block.stands).1, ap (λ (q : Place). q.first_bit + width_of q.part) c.PLACE-place.ensures) in
     record {
       held = tt;
-      answer = ranged p c.place-place.result g.K.Block.made c.args.bytes.now w (Some c.in-Some.bit)
-          c.place-place.ensures new.0 new.1 (sym c.if-not-is_of.false ∙ c.is_of.ensures)
-          (c.in-Some.ensures.same fits ∙ ap (λ l. first_outside (placed_of c.place-place.result) (bits_of l)) c.bytes.ensures);
+      answer = ranged p c.PLACE-place.result g.K.Block.made c.args.bytes.now w (Some c.in-Some.bit)
+          c.PLACE-place.ensures new.0 new.1 (sym c.if-not-is_of.false ∙ c.is_of.ensures)
+          (c.in-Some.ensures.same fits ∙ ap (λ l. first_outside (placed_of c.PLACE-place.result) (bits_of l)) c.bytes.ensures);
     }
 
 pub returns : goal.returns
 returns g c =
     let new = c.in_ok-message.ensures in
     let b = g.K.Block in
-    let p = b.site in
+    let p = b.PLACE in
     let w = c.in_ok-message.message.bytes in
-    let fits : c.place-place.result.first_bit + width_of c.place-place.result.part ≤ 486 =
-    omega (arith, (room p b.size g.met.K.Block.stands).1, ap (λ (q : Place). q.first_bit + width_of q.part) c.place-place.ensures) in
+    let fits : c.PLACE-place.result.first_bit + width_of c.PLACE-place.result.part ≤ 486 =
+    omega (arith, (room p b.size g.met.K.Block.stands).1, ap (λ (q : Place). q.first_bit + width_of q.part) c.PLACE-place.ensures) in
     let r = c.get_counts.result in
     let got : b.counts r ≡ held_in p c.args.bytes.now = c.get_counts.ensures ∙ ap (held_in p) (c.bytes-2.ensures ∙ new.0) in
     record {
       held = (got, ap length (sym new.0) ∙ c.in_ok-message.message.long);
       answer = ap Ok (sym (g.met.K.Block.back r) ∙ ap b.made got)
-          ∙ ranged p c.place-place.result b.made c.args.bytes.now w None
-          c.place-place.ensures new.0 new.1 (sym c.if-not-is_of.false ∙ c.is_of.ensures)
-          (c.in_default.ensures.same fits ∙ ap (λ l. first_outside (placed_of c.place-place.result) (bits_of l)) c.bytes.ensures);
+          ∙ ranged p c.PLACE-place.result b.made c.args.bytes.now w None
+          c.PLACE-place.ensures new.0 new.1 (sym c.if-not-is_of.false ∙ c.is_of.ensures)
+          (c.in_default.ensures.same fits ∙ ap (λ l. first_outside (placed_of c.PLACE-place.result) (bits_of l)) c.bytes.ensures);
     }

@@ -13,15 +13,15 @@ returns g c =
     let small = c.put_counts.ensures.small in
     let fit = c.in_default.ensures in
     record {
-      answer = answered b.site (b.counts of) _ (omega arith) fit;
+      answer = answered b.PLACE (b.counts of) _ (omega arith) fit;
       written = λ _. bits;
       kept = λ t. absurd (both_ways true t refl);
       small = small;
       back =
           λ _ s f.
           let counted = g.met.K.Block.counted of in
-          let over = message_over b.site b.size g.met.K.Block.stands (b.counts of) ss ts counted (omega arith) bits in
-          read_back b.site b.size g.met.K.Block.stands (b.counts of) (take 81 ss) (take 81 ts) counted s.long over (sym fit)
+          let over = message_over b.PLACE b.size g.met.K.Block.stands (b.counts of) ss ts counted (omega arith) bits in
+          read_back b.PLACE b.size g.met.K.Block.stands (b.counts of) (take 81 ss) (take 81 ts) counted s.long over (sym fit)
           b.made (symbols_stay ss ts (omega arith) small s) f
           ∙ ap Ok (g.met.K.Block.back of);
     }
