@@ -14,8 +14,9 @@ ghost use Rattle.blocks.specs.Stands.{Stands};
 ghost use Rattle.blocks.specs.Write.{raw_of, first_unfit, written_over, write_answer};
 ghost use Rattle.blocks.specs.declared.place.Place.{Place};
 
-use bits::{get_bits, put_bits};
+use bits::put_bits;
 use layout::{MessageType, count_at, fields, first_outside_in, is_outside};
+use message::type_number;
 use parity::{Message, SymbolFault};
 
 pub mod fault;
@@ -48,6 +49,7 @@ pub trait Block {
     fn zero() -> Self::Record
         ensures { counts result ≡ zeros size };
 
+    // By a match in each kind, since a record has a name for each field, and a macro of ours may write no `impl`.
     /// The count of field number `i`; 0 past the last.
     fn count(of: &Self::Record, i: usize) -> i64
         ensures { result ≡ slice_index_or (counts of.now) i (pos 0) };
@@ -82,7 +84,7 @@ fn get_counts<K: Block>(symbols: &[u8; 81]) -> K::Record
 fn is_of(message: &Message, kind: MessageType) -> bool
     ensures { result ≡ is_of kind message.now.bytes }
 {
-    get_bits(message.bytes(), 0, 6) == u64::from(kind.number())
+    type_number(message) == kind.number()
 }
 
 fn read_in_turn<K: Block>(bytes: &[u8]) -> Result<K::Record, BlockFault>

@@ -43,6 +43,7 @@ pub trait Described {
     /// The name of the block.
     const NAME: &'static str;
 
+    // A function and no constant slice, since a constant's value can call neither `plain` nor `scaled`.
     /// Field number `i`, and past the last the last.
     fn field_text(i: usize) -> FieldText;
 }

@@ -36,7 +36,7 @@ fn crc_fits(message: &Message) -> bool
 
 /// The number of the type, in bits 0 to 5.
 #[tactic(auto, unfolding(crate::specs::Lawful::number_at))]
-fn type_number(message: &Message) -> u8
+pub fn type_number(message: &Message) -> u8
     ensures { result ≡ number_at message.now.bytes 0 6 }
 {
     get_bits(message.bytes(), 0, 6) as u8
