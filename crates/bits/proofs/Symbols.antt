@@ -48,11 +48,11 @@ part_lt bs b w u =
 -- ---- one symbol more
 
 -- nine symbols have 54 bits
-pub nine_lt : (ss : List ℕ) (f k : ℕ) → k ≤ 9 → number_from_digits 2 (bits_of (part ss f k)) < 2 ^ 54
-nine_lt ss f k h =
-    let bs : List ℕ = bits_of (part ss f k) in
-    let s : length bs ≤ 54 = omega (arith, length_bits (part ss f k), length-take k (drop f ss)) in
-    omega (arith, number_lt 2 bs (under_bits (part ss f k)), pow-le-pow_right {n = 2} (omega arith) s)
+pub nine_lt : (ss : List ℕ) (k : ℕ) → k ≤ 9 → number_from_digits 2 (bits_of (take k ss)) < 2 ^ 54
+nine_lt ss k h =
+    let bs : List ℕ = bits_of (take k ss) in
+    let s : length bs ≤ 54 = omega (arith, length_bits (take k ss), length-take k ss) in
+    omega (arith, number_lt 2 bs (under_bits (take k ss)), pow-le-pow_right {n = 2} (omega arith) s)
 
 after_symbol : (n s : ℕ) → number_from_digits_after 2 n (bits_of (s ∷ [])) ≡ n * 64 + s % 64
 after_symbol n s =

@@ -8,14 +8,14 @@ ghost use Rattle.std.specs.Prelude.{◌≡◌, ℕ, ◌+◌, ◌-◌, ◌/◌, �
 ghost use Rattle.std.specs.Int.Digits.{number_from_digits};
 ghost use Rattle.bits.specs.Bits.{bits_of, part, pasted, spelled};
 
-/// The number that the bits of the symbols from `first` up to `end` write.
-fn gather(symbols: &[u8; 81], first: usize, end: usize) -> u64
-    requires { (first ≤ end) × ((end ≤ first + 10) × (end ≤ 81)) }
-    ensures { result ≡ number_from_digits 2 (bits_of (part symbols.now first (end - first))) }
+/// The number that the bits of the symbols write.
+fn gather(symbols: &[u8]) -> u64
+    requires { length symbols.now ≤ 10 }
+    ensures { result ≡ number_from_digits 2 (bits_of symbols.now) }
 {
     let mut v: u64 = 0;
-    for i in first..end {
-        v = v * 64 + (symbols[i] % 64) as u64;
+    for symbol in symbols {
+        v = v * 64 + (symbol % 64) as u64;
     }
     v
 }
@@ -32,7 +32,7 @@ pub fn get_bits(symbols: &[u8; 81], at: usize, width: usize) -> u64
         return 0;
     }
     let end = (at + width + 5) / 6;
-    let v = gather(symbols, at / 6, end);
+    let v = gather(&symbols[at / 6..end]);
     (v >> (6 * end - (at + width))) % (1u64 << width)
 }
 

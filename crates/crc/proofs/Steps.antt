@@ -1,9 +1,10 @@
 -- The register, bit by bit and six bits at a time.
-use Rattle.std.proofs.Common.{◌≡◌, ℕ, suc, ◌+◌, ◌*◌, ◌/◌, ◌%◌, ◌^◌, ◌<◌, ◌≤◌, List, [], ◌∷◌, ◌++◌, length, get_or, take, fold, sym, refl, ap, ◌∙◌, ap₂, add-zero, mul_assoc, pow-suc, arith, lit<}
+use Rattle.std.proofs.Common.{◌≡◌, ℕ, suc, ◌+◌, ◌*◌, ◌/◌, ◌%◌, ◌^◌, ◌<◌, ◌≤◌, List, [], ◌∷◌, length, get_or, take, fold, sym, refl, ap, ◌∙◌, ap₂, add-zero, mul_assoc, pow-suc, arith, lit<}
 use native.Mathlib.Nat.{pow-succ', pow-le-pow_right}
 use lib.Bits.{bit_xor, xor_assoc, xor_comm, xor_lt, xor_block, xor_mod, xor_shr, xor_shifted, xor_zero_r}
 use Rattle.std.proofs.lemmas.Nat.{pow_pos, shr_split}
 use Rattle.std.proofs.lemmas.List.{take_more}
+use Rattle.std.proofs.lemmas.List.Sums.{fold-append}
 use Rattle.bits.specs.Bits.{bits_of}
 use Rattle.bits.proofs.Symbols.{bits_append}
 use Rattle.crc.specs.Crc.{crc_step, crc_of, six_zeros}
@@ -72,10 +73,6 @@ symbol_step r s hr =
     ∙ ap₂ bit_xor top (omega arith)
     ∙ xor_comm (six_zeros (bit_xor h s % 64)) (r * 64 % 2 ^ 24)
 
-folded_append : {A B : Type 0} (f : B → A → B) (a : B) (xs ys : List A) → fold f a (xs ++ ys) ≡ fold f (fold f a xs) ys
-folded_append f a [] ys = refl
-folded_append f a (x ∷ xs) ys = folded_append f (f a x) xs ys
-
 -- one symbol more
 pub crc_more : (ss : List ℕ) (i : ℕ) → i < length ss
     → crc_of (bits_of (take (i + 1) ss)) ≡ fold crc_step (crc_of (bits_of (take i ss))) (bits_of (get_or ss i 0 ∷ []))
@@ -83,4 +80,4 @@ unfolding crc_of
 crc_more ss i h =
     ap (λ l. fold crc_step 0 (bits_of l)) (take_more ss i 0 h)
     ∙ ap (fold crc_step 0) (bits_append (take i ss) (get_or ss i 0 ∷ []))
-    ∙ folded_append crc_step 0 (bits_of (take i ss)) (bits_of (get_or ss i 0 ∷ []))
+    ∙ fold-append crc_step 0 (bits_of (take i ss)) (bits_of (get_or ss i 0 ∷ []))

@@ -46,8 +46,8 @@ pub fn crc24q(symbols: &[u8; 81]) -> u32
     ensures only { (s : ℕ) → Remainder generator (take 462 (bits_of symbols.now)) s → s ≡ result }
 {
     let mut reg: u32 = 0;
-    for i in 0..77 {
-        reg = step(reg, symbols[i]);
+    for symbol in &symbols[..77] {
+        reg = step(reg, *symbol);
     }
     reg
 }

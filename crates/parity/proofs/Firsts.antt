@@ -1,6 +1,8 @@
 -- The first number that fails a test, found by going up.
-use Rattle.std.proofs.Common.{◌≡◌, ℕ, zero, suc, ◌+◌, ◌<◌, ◌≤◌, Bool, true, false, cond, Some, None, Option, sym, refl, ap, ◌∙◌, inl, inr, arith}
-use Rattle.std.proofs.lemmas.Bool.{cases_eq, cond-true, cond-false}
+use Rattle.std.proofs.Common.{◌≡◌, ℕ, zero, suc, ◌+◌, ◌<◌, ◌≤◌, Bool, true, false, not, cond, ltb, List, length, get_or, Some, None, Option, sym, refl, ap, ◌∙◌, inl, inr, arith}
+use Rattle.std.proofs.lemmas.Bool.{cases_eq, cond-true, cond-false, cond_both, ltb-true, ltb-false}
+use Rattle.std.proofs.lemmas.List.Sums.{fails_before_first, passes_at_first}
+use Rattle.std.specs.List.{position_or_len}
 use Rattle.parity.specs.Bytes.{first_from, first}
 use Rattle.parity.proofs.Cases.{by}
 
@@ -58,3 +60,15 @@ from_some p (suc n) i k e =
 
 pub first_some : (p : ℕ → Bool) (n k : ℕ) → first n p ≡ Some k → (k < n) × (p k ≡ false)
 first_some p n k e = let h = from_some p n 0 k e in (omega (arith, h.0), h.1)
+
+-- what `position` gives, by number
+pub first_position : {X : Type 0} (test : X → Bool) (p : ℕ → Bool) (xs : List X) (d : X) → ((k : ℕ) → k < length xs → p k ≡ not (test (get_or xs k d)))
+    → cond (ltb (position_or_len test xs) (length xs)) (Some (position_or_len test xs)) None ≡ first (length xs) p
+first_position test p xs d e =
+    let n : ℕ = position_or_len test xs in
+    let m : ℕ = length xs in
+    let early : (k : ℕ) → k < n → k < m → p k ≡ true = λ k l h. e k h ∙ ap not (fails_before_first test xs k d l) in
+    cond_both (ltb n m) (Some n) None (λ r. r ≡ first m p)
+    (λ t. let h : n < m = ltb-true n m t in
+    sym (first_at p m n h (λ k l. early k l (omega arith)) (e n h ∙ ap not (passes_at_first test xs d h))))
+    (λ t. let h : m ≤ n = ltb-false n m t in sym (first_none p m (λ k l. early k (omega arith) l)))

@@ -1,14 +1,15 @@
 -- The check symbols round the ring: they make a code word of the message, and no others do.
-use Rattle.std.proofs.Common.{◌≡◌, ℕ, zero, suc, ◌+◌, ◌-◌, ◌<◌, ◌≤◌, Bool, ◌&&◌, eqb, ltb, leb, ◌≢◌, List, [], ◌∷◌, length, get_or, set, sym, refl, ap, ◌∙◌, ap₂, inl, inr, arith, lit<, lit≤}
+use Rattle.std.proofs.Common.{◌≡◌, ℕ, zero, suc, ◌+◌, ◌-◌, ◌<◌, ◌≤◌, Bool, ◌&&◌, eqb, ltb, leb, ◌≢◌, List, [], ◌∷◌, length, get_or, set, sym, refl, ap, ◌∙◌, subst, ap₂, inl, inr, arith, lit<, lit≤}
 use lib.Bits.{bit_xor, xor_assoc, xor_comm, xor_self, xor_zero_r}
-use Rattle.std.proofs.lemmas.List.{ext_get_or, get_or-set_same, get_or-set_other}
+use Rattle.std.proofs.lemmas.List.{ext_get_or, get_or_default, get_or-set_same, get_or-set_other}
 use Rattle.std.proofs.lemmas.Bool.{and_parts, cases_eq, cases_lt, eqb-true, leb-true, ltb-true}
+use Rattle.std.specs.List.{Contains}
 use Rattle.gf64.specs.Field.{mul, mul_low, times_x, scaled, square, inv}
 use Rattle.computed.proofs.Below.{each, each2, less, same}
 use Rattle.gf64.proofs.Laws.{mul_lt, mul_comm, mul_assoc, mul_one, mul_xor_l, mul_xor_r, mul_inv, mul_inv_off, inv_lt, xor_small}
 use Rattle.parity.specs.Code.{SymbolList, Codeword, sym_at, weighted, row_sum}
-use Rattle.parity.specs.Table.{places, factors, bcnav3, place_at, factor_at}
-use Rattle.parity.specs.Ring.{ring, turn_at, from_place, to_place, from_factor, to_factor, term, message_sum, next, run, start}
+use Rattle.parity.specs.Table.{rows, places, factors, bcnav3, place_at, factor_at}
+use Rattle.parity.specs.Ring.{ring, turn_at, from_place, to_place, from_factor, to_factor, term, message_sum, turned, next, run, start}
 use Rattle.parity.proofs.Distance.{xor_eq}
 use Rattle.parity.proofs.Rows.{place_lt, factor_lt, row_terms, rows_81}
 use Rattle.parity.proofs.Small.{set_symbols}
@@ -33,6 +34,10 @@ turn_to_place =
 
 -- ---- what tests say of the turns
 
+pub length_ring : length ring ≡ 81
+unfolding ring
+length_ring = refl
+
 pub row_lt : (k : ℕ) → k < 81 → (turn_at k).row < 81
 unfolding ring
 row_lt k h = less 81 81 (λ k. (turn_at k).row) refl k h
@@ -51,6 +56,20 @@ sides k h =
     let q = and_parts (leb 2 (turn_at k).from) (leb (turn_at k).from 3) p.1 in
     record { sum = eqb-true ((turn_at k).from + (turn_at k).to) 5 p.0; low = leb-true 2 (turn_at k).from q.0; high = leb-true (turn_at k).from 3 q.1 }
 
+-- what is a turn of the ring
+pub record Turning (p : ℕ × ℕ) : Type 0 where
+  pub row : p.0 < 81
+  pub from : p.1 ≤ 3
+  pub to : 5 - p.1 ≤ 3
+  pub some : 2 ≤ p.1
+
+pub turning : (p : ℕ × ℕ) → Contains ring p → Turning p
+turning p (k, h, e) =
+    let l : k < 81 = omega (arith, length_ring) in
+    let s = sides k l in
+    let is : get_or ring k (0, 0) ≡ p = get_or_default ring k (0, 0) p h ∙ e in
+    subst Turning is (record { row = row_lt k l; from = s.high; to = omega (arith, s.sum, s.low); some = s.low })
+
 from_lt : (k : ℕ) → k < 81 → from_factor k < 64
 from_lt k h = factor_lt (turn_at k).row (turn_at k).from (row_lt k h) (omega (arith, (sides k h).high))
 
@@ -58,27 +77,27 @@ to_lt : (k : ℕ) → k < 81 → to_factor k < 64
 to_lt k h = factor_lt (turn_at k).row (turn_at k).to (row_lt k h) (omega (arith, (sides k h).sum, (sides k h).low))
 
 to_some : (k : ℕ) → k < 81 → to_factor k ≢ 0
-unfolding ring factors
+unfolding ring rows
 to_some k h = let p : 0 < to_factor k = ltb-true 0 (to_factor k) (each 81 (λ k. ltb 0 (to_factor k)) refl k h) in omega arith
 
 -- where a turn comes to, the next one starts
 joined : (k : ℕ) → k < 80 → from_place (suc k) ≡ to_place k
-unfolding ring places
+unfolding ring rows
 joined k h = same 80 (λ k. from_place (suc k)) (λ k. to_place k) refl k h
 
 closed : from_place 0 ≡ to_place 80
-unfolding ring places
+unfolding ring rows
 closed = refl
 
 pub to_high : (k : ℕ) → k < 81 → 81 ≤ to_place k
-unfolding ring places
+unfolding ring rows
 to_high k h = leb-true 81 (to_place k) (each 81 (λ k. leb 81 (to_place k)) refl k h)
 
 pub to_place_lt : (k : ℕ) → k < 81 → to_place k < 162
 to_place_lt k h = place_lt (turn_at k).row (turn_at k).to (row_lt k h) (omega (arith, (sides k h).sum, (sides k h).low))
 
 message_place : (r j : ℕ) → r < 81 → j < 2 → place_at r j < 81
-unfolding places
+unfolding rows
 message_place r j h l =
     ltb-true (place_at r j) 81 (each2 81 2 (λ r j. ltb (place_at r j) 81) refl r j h l)
 
@@ -103,14 +122,14 @@ pub record TurnTo (x : ℕ) : Type 0 where
   pub is : to_place (turn_to x) ≡ x
 
 pub turn_to_lem : (q : ℕ) → q < 81 → TurnTo (81 + q)
-unfolding turn_to turn_to_place ring places
+unfolding turn_to turn_to_place ring rows
 turn_to_lem q h =
     let t : ℕ → ℕ = λ q. turn_to (81 + q) in
     let p = and_parts (ltb (t q) 81) (eqb (to_place (t q)) (81 + q)) (each 81 (λ q. ltb (t q) 81 && eqb (to_place (t q)) (81 + q)) refl q h) in
     record { low = ltb-true (t q) 81 p.0; is = eqb-true (to_place (t q)) (81 + q) p.1 }
 
 pub turn_back : (k : ℕ) → k < 81 → turn_to (to_place k) ≡ k
-unfolding turn_to turn_to_place ring places
+unfolding turn_to turn_to_place ring rows
 turn_back k h = same 81 (λ k. turn_to (to_place k)) (λ k. k) refl k h
 
 to_apart : (j k : ℕ) → j < 81 → k < 81 → j ≢ k → to_place j ≢ to_place k
@@ -118,8 +137,8 @@ to_apart j k hj hk n e = n (sym (turn_back j hj) ∙ ap turn_to e ∙ turn_back 
 
 -- ---- one turn
 
-turned : (k : ℕ) → k < 81 → (g : ℕ → ℕ) → bit_xor (g 2) (g 3) ≡ bit_xor (g (turn_at k).from) (g (turn_at k).to)
-turned k h g =
+both_sides : (k : ℕ) → k < 81 → (g : ℕ → ℕ) → bit_xor (g 2) (g 3) ≡ bit_xor (g (turn_at k).from) (g (turn_at k).to)
+both_sides k h g =
     let s = sides k h in
     elim (cases_eq (turn_at k).from 2) [
       | inl e ↦ let t : (turn_at k).to ≡ 3 = omega (arith, s.sum) in sym (ap₂ (λ a b. bit_xor (g a) (g b)) e t)
@@ -148,7 +167,7 @@ module _ (w : ℕ → ℕ) (hw : (k : ℕ) → w k < 64) where
       (mul_lt (from_factor k) x (from_lt k h) hx)
 
   pub next_lt : (k x : ℕ) → k < 81 → x < 64 → next k w x < 64
-  unfolding next known
+  unfolding turned known
   next_lt k x h hx = mul_lt (inv (to_factor k)) (known k x) (inv_lt (to_factor k) (to_lt k h)) (known_lt k x h hx)
 
   pub run_lt : (n x : ℕ) → n ≤ 81 → x < 64 → run w x n < 64
@@ -162,12 +181,12 @@ module _ (w : ℕ → ℕ) (hw : (k : ℕ) → w k < 64) where
   unfolding known message_sum
   turn_sum k h =
       row_terms (turn_at k).row (row_lt k h) w
-      ∙ ap (bit_xor (message_sum (turn_at k).row w)) (turned k h (term (turn_at k).row w))
+      ∙ ap (bit_xor (message_sum (turn_at k).row w)) (both_sides k h (term (turn_at k).row w))
       ∙ sym (xor_assoc (message_sum (turn_at k).row w) (mul (from_factor k) (w (from_place k))) (mul (to_factor k) (w (to_place k))))
 
   -- the turn's symbol makes the sum of its row 0
   next_solves : (k x : ℕ) → k < 81 → x < 64 → bit_xor (known k x) (mul (to_factor k) (next k w x)) ≡ 0
-  unfolding next known
+  unfolding turned known
   next_solves k x h hx =
       let y : ℕ = known k x in
       let f : ℕ = to_factor k in
@@ -180,7 +199,7 @@ module _ (w : ℕ → ℕ) (hw : (k : ℕ) → w k < 64) where
 
   -- and no other does
   next_only : (k x z : ℕ) → k < 81 → z < 64 → bit_xor (known k x) (mul (to_factor k) z) ≡ 0 → z ≡ next k w x
-  unfolding next known
+  unfolding turned known
   next_only k x z h hz e =
       sym (mul_inv_off (to_factor k) z (to_lt k h) hz (to_some k h))
       ∙ ap (mul (inv (to_factor k))) (sym (xor_eq (known k x) (mul (to_factor k) z) e))
@@ -206,7 +225,7 @@ message_sum_same u v e r h =
     (e (place_at r 1) (message_place r 1 h (lit< tt)))
 
 pub next_same : (u v : ℕ → ℕ) → ((k : ℕ) → k < 81 → u k ≡ v k) → (n x : ℕ) → n < 81 → next n u x ≡ next n v x
-unfolding next
+unfolding turned
 next_same u v e n x h =
     ap (λ s. mul (inv (to_factor n)) (bit_xor s (mul (from_factor n) x))) (message_sum_same u v e (turn_at n).row (row_lt n h))
 
@@ -234,7 +253,7 @@ gain_lt (suc n) h =
     (mul_lt (from_factor n) (gain n) (from_lt n h) (gain_lt n (omega arith)))
 
 gain_round : gain 81 ≡ 26
-unfolding gain ring places factors mul mul_low times_x scaled inv square
+unfolding gain ring rows mul mul_low times_x scaled inv square
 gain_round = refl
 
 unit : mul 34 27 ≡ 1
@@ -278,7 +297,7 @@ solves a ha =
 
 module _ (w : ℕ → ℕ) (hw : (k : ℕ) → w k < 64) where
   run_gain : (n x : ℕ) → n ≤ 81 → x < 64 → run w x n ≡ bit_xor (run w 0 n) (mul (gain n) x)
-  unfolding run gain next
+  unfolding run gain turned
   run_gain zero x h hx = sym (mul_one x hx)
   run_gain (suc n) x h hx =
       ap (next n w) (run_gain n x (omega arith) hx)

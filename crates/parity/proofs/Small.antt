@@ -1,7 +1,7 @@
 -- Lists of symbols.
-use Rattle.std.proofs.Common.{◌≡◌, ℕ, zero, suc, ◌+◌, ◌<◌, true, ◌≢◌, List, [], ◌∷◌, length, get_or, take, set, replicate, ◌∙◌, inl, inr, arith, lit<, below_more}
+use Rattle.std.proofs.Common.{◌≡◌, ℕ, zero, suc, ◌<◌, true, List, [], ◌∷◌, ◌++◌, length-append, length, get_or, take, set, replicate, ◌∙◌, inl, inr, arith, lit<}
 use mathlib.Core.Path.{subst⁻¹}
-use Rattle.std.proofs.lemmas.List.{get_or_past, get_or-set_same, get_or-set_other, length-set}
+use Rattle.std.proofs.lemmas.List.{get_or_past, length-set}
 use Rattle.std.proofs.lemmas.Bool.{cases_lt, leb-true}
 use Rattle.parity.specs.Bytes.{is_symbol}
 use Rattle.parity.specs.Code.{SymbolList}
@@ -31,10 +31,14 @@ zeros_small zero k = lit< tt
 zeros_small (suc n) zero = lit< tt
 zeros_small (suc n) (suc k) = zeros_small n k
 
+pub append_small : (u v : List ℕ) → ((k : ℕ) → get_or u k 0 < 64) → ((k : ℕ) → get_or v k 0 < 64) → (k : ℕ) → get_or (u ++ v) k 0 < 64
+append_small [] v hu hv k = hv k
+append_small (x ∷ u) v hu hv zero = hu 0
+append_small (x ∷ u) v hu hv (suc k) = append_small u v (λ j. hu (suc j)) hv k
+
 pub set_symbols : (n : ℕ) (w : List ℕ) (i v : ℕ) → SymbolList n w → v < 64 → SymbolList n (set w i v)
 set_symbols n w i v s l = record { long = length-set w i v ∙ s.long; small = set_small w i v s.small l }
 
--- one more symbol written
-pub set_more : (w : List ℕ) (i v : ℕ) (f : ℕ → ℕ) → i < length w → v ≡ f i → ((k : ℕ) → k < i → get_or w k 0 ≡ f k) → (k : ℕ) → k < i + 1 → get_or (set w i v) k 0 ≡ f k
-set_more w i v f l e h =
-    below_more _ _ (λ k q. let other : k ≢ i = omega arith in get_or-set_other w i k v 0 other ∙ h k q) (get_or-set_same w i v 0 l ∙ e)
+-- a message, and zeros in place of its check symbols
+pub with_zeros : (m : List ℕ) → SymbolList 81 m → SymbolList 162 (m ++ replicate 81 0)
+with_zeros m s = record { long = omega (arith, length-append m (replicate 81 0), s.long); small = append_small m (replicate 81 0) s.small (zeros_small 81) }

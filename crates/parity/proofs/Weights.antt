@@ -1,8 +1,10 @@
 -- The sum of a row, and the factor that a place has in it.
-use Rattle.std.proofs.Common.{◌≡◌, ℕ, zero, suc, ◌<◌, true, false, not, ◌&&◌, eqb, ltb, ◌≢◌, List, [], ◌∷◌, length, get_or, sym, refl, ap, ◌∙◌, ap₂, arith, lit<}
+use Rattle.std.proofs.Common.{◌≡◌, ℕ, ◌<◌, true, false, not, ◌&&◌, eqb, ltb, ◌≢◌, List, [], ◌∷◌, length, map, sym, refl, ap, ◌∙◌, ap₂, arith, lit<}
 use mathlib.Core.Path.{subst⁻¹}
+use Rattle.std.specs.List.{find}
+use Rattle.std.specs.Option.{option_map_or}
 use lib.Bits.{bit_xor, xor_zero_l, xor_zero_r}
-use Rattle.std.proofs.lemmas.Bool.{and_parts, and_left, and_right, eq-eqb, ne_eqb, eqb-true, eqb-false, ltb-true, not-true, cond-true, cond-false}
+use Rattle.std.proofs.lemmas.Bool.{and_parts, and_left, and_right, eq-eqb, eqb-true, eqb-false, ltb-true, not-true, cond-true, cond-false}
 use Rattle.gf64.specs.Field.{mul}
 use Rattle.gf64.proofs.Laws.{mul_lt, mul_comm, mul_xor_r, mul_zero, xor_small, xor_medial}
 use Rattle.parity.specs.Code.{weighted, factor_in}
@@ -74,24 +76,14 @@ factor_present x (p ∷ ps) (f ∷ fs) l t z =
     (λ e. ap (λ b. not b && absent x ps) e
     ∙ factor_present x ps fs (omega arith) q.rest (sym (cond-false (eqb p x) f (factor_in x ps fs) e) ∙ z))
 
--- the same, place by place
-pub factor_here : (x : ℕ) (ps fs : List ℕ) (j : ℕ) → length ps ≡ length fs → j < length ps → get_or ps j 0 ≡ x
-    → ((k : ℕ) → k < j → get_or ps k 0 ≢ x) → get_or fs j 0 ≡ factor_in x ps fs
+-- the same, found in a row of places with their factors
+pub factor_found : (x : ℕ) (row : List (ℕ × ℕ)) → option_map_or (λ e. e.1) (find (λ e. eqb e.0 x) row) 0 ≡ factor_in x (map (λ e. e.0) row) (map (λ e. e.1) row)
 unfolding factor_in
-factor_here x [] fs j l h e n = absurd (omega arith)
-factor_here x (p ∷ ps) [] j l h e n = absurd (omega arith)
-factor_here x (p ∷ ps) (f ∷ fs) zero l h e n = sym (cond-true (eqb p x) f (factor_in x ps fs) (eq-eqb p x e))
-factor_here x (p ∷ ps) (f ∷ fs) (suc j) l h e n =
-    factor_here x ps fs j (omega arith) (omega arith) e (λ k g. n (suc k) (omega arith))
-    ∙ sym (cond-false (eqb p x) f (factor_in x ps fs) (ne_eqb p x (n 0 (omega arith))))
-
-pub factor_nowhere : (x : ℕ) (ps fs : List ℕ) → ((k : ℕ) → k < length ps → get_or ps k 0 ≢ x) → factor_in x ps fs ≡ 0
-unfolding factor_in
-factor_nowhere x [] fs n = refl
-factor_nowhere x (p ∷ ps) [] n = refl
-factor_nowhere x (p ∷ ps) (f ∷ fs) n =
-    cond-false (eqb p x) f (factor_in x ps fs) (ne_eqb p x (n 0 (omega arith)))
-    ∙ factor_nowhere x ps fs (λ k g. n (suc k) (omega arith))
+factor_found x [] = refl
+factor_found x (e ∷ row) =
+    by (eqb e.0 x)
+    (λ t. rw t refl)
+    (λ t. rw t (factor_found x row))
 
 -- ---- sums of what is 0 nearly everywhere
 

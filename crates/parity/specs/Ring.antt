@@ -2,7 +2,6 @@
 use Rattle.std.specs.Prelude.{ℕ, zero, suc, ◌-◌, List, [], ◌∷◌, bit_xor, slice_index_or}
 use Rattle.gf64.specs.Field.{mul, inv}
 use Rattle.parity.specs.Table.{place_at, factor_at}
-use Rattle.parity.specs.declared.table.Turn.{Turn}
 
 -- the row of each turn, and which of its places it starts from, 2 or 3
 unfoldable pub ring : List (ℕ × ℕ)
@@ -18,10 +17,21 @@ ring =
     (26, 3) ∷
     []
 
+-- a row, and which of its places a turn starts from and comes to
+pub record Turn : Type 0 where
+  pub row : ℕ
+  pub from : ℕ
+  pub to : ℕ
+
+abbrev pub turn_of : ℕ × ℕ → Turn
+turn_of p = record { row = p.0; from = p.1; to = 5 - p.1 }
+
 abbrev pub turn_at : ℕ → Turn
-turn_at k =
-    let p : ℕ × ℕ = slice_index_or ring k (0, 0) in
-    record { row = p.0; from = p.1; to = 5 - p.1 }
+turn_at k = turn_of (slice_index_or ring k (0, 0))
+
+-- the place that a turn comes to
+abbrev pub reached : Turn → ℕ
+reached t = place_at t.row t.to
 
 abbrev pub from_place : ℕ → ℕ
 from_place k = place_at (turn_at k).row (turn_at k).from
@@ -43,9 +53,12 @@ term r w j = mul (factor_at r j) (w (place_at r j))
 unfoldable pub message_sum : ℕ → (ℕ → ℕ) → ℕ
 message_sum r w = bit_xor (term r w 0) (term r w 1)
 
--- the symbol at the place that turn k comes to, from the one that it starts from
-unfoldable pub next : ℕ → (ℕ → ℕ) → ℕ → ℕ
-next k w x = mul (inv (to_factor k)) (bit_xor (message_sum (turn_at k).row w) (mul (from_factor k) x))
+-- the symbol at the place that a turn comes to, from the one that it starts from
+unfoldable pub turned : Turn → (ℕ → ℕ) → ℕ → ℕ
+turned t w x = mul (inv (factor_at t.row t.to)) (bit_xor (message_sum t.row w) (mul (factor_at t.row t.from) x))
+
+abbrev pub next : ℕ → (ℕ → ℕ) → ℕ → ℕ
+next k w x = turned (turn_at k) w x
 
 -- after n turns from x
 unfoldable pub run : (ℕ → ℕ) → ℕ → ℕ → ℕ

@@ -4,60 +4,56 @@
 //! alone decides a. So the first round, from 0, gives a; the ring closes from 34 a, as 34 is the inverse of 1 + 26; and the
 //! second round, from there, writes the symbols.
 ghost use Rattle.std.specs.Prelude.{◌≡◌, ℕ, ◌<◌};
-ghost use Rattle.parity.specs.Code.{SymbolList, Codeword, sym_at};
-ghost use Rattle.parity.specs.Ring.{next as next_at, run, to_place};
+ghost use Rattle.std.specs.List.{Contains};
+ghost use Rattle.parity.specs.Code.{Codeword, sym_at};
+ghost use Rattle.parity.specs.Ring.{ring, run, turn_of, turned, reached};
 ghost use Rattle.parity.specs.Table.{bcnav3};
 
+use crate::Word;
 use crate::sums::term;
-use crate::table::{factor, place, turn_at};
+use crate::table::{self, Turn};
 use gf64::{inverse, product};
 
-/// The check symbol that turn `k` comes to, from the one that it starts from.
-fn next(word: &[u8; 162], k: usize, from: u8) -> u8
-    requires symbol_list { SymbolList 162 word.now }
-    requires k_bound { k < 81 }
-    requires from_bound { from < 64 }
-    ensures same { result ≡ next_at k (sym_at word.now) from }
-    ensures below { result < 64 }
+/// The place that a turn comes to and its check symbol, from the symbol that the turn starts from.
+fn next(word: &Word, turn: &Turn, last: u8) -> (usize, u8)
+    requires in_ring { Contains ring turn.now }
+    requires bound { last < 64 }
+    ensures place { result.0 ≡ reached (turn_of turn.now) }
+    ensures symbol { result.1 ≡ turned (turn_of turn.now) (sym_at word.now.bytes) last }
+    ensures below { (result.0 < 162) × (result.1 < 64) }
 {
-    let turn = turn_at(k);
-    let message = term(word, turn.row, 0) ^ term(word, turn.row, 1);
-    let before = product(factor(turn.row, turn.from), from);
-    product(inverse(factor(turn.row, turn.to)), message ^ before)
+    let (row, from) = *turn;
+    let row = &table::rows()[row as usize];
+    let (_, factor) = row[from as usize];
+    let (place, divisor) = row[5 - from as usize];
+    let message = term(word, &row[0]) ^ term(word, &row[1]);
+    (
+        place as usize,
+        product(inverse(divisor), message ^ product(factor, last)),
+    )
 }
 
 /// What the ring, from 0, comes back to.
-fn once_round(word: &[u8; 162]) -> u8
-    requires { SymbolList 162 word.now }
-    ensures same { result ≡ run (sym_at word.now) 0 81 }
+fn once_round(word: &Word) -> u8
+    ensures same { result ≡ run (sym_at word.now.bytes) 0 81 }
     ensures below { result < 64 }
 {
     let mut last = 0;
-    for k in 0..81usize {
-        last = next(word, k, last);
+    for turn in table::ring() {
+        (_, last) = next(word, turn, last);
     }
     last
 }
 
-/// The place that turn `k` comes to.
-fn place_of(k: usize) -> usize
-    requires { k < 81 }
-    ensures same { result ≡ to_place k }
-    ensures below { result < 162 }
-{
-    let turn = turn_at(k);
-    place(turn.row, turn.to)
-}
-
 /// Writes the check symbols, 81 to 161, of the message in symbols 0 to 80.
-pub(crate) fn fill(word: &mut [u8; 162])
-    requires { SymbolList 162 word.old }
-    ensures codeword { Codeword bcnav3 word.new }
-    ensures kept { (k : ℕ) → k < 81 → sym_at word.new k ≡ sym_at word.old k }
+pub(crate) fn fill(word: &mut Word)
+    ensures codeword { Codeword bcnav3 word.new.bytes }
+    ensures kept { (k : ℕ) → k < 81 → sym_at word.new.bytes k ≡ sym_at word.old.bytes k }
 {
     let mut last = product(34, once_round(word));
-    for k in 0..81usize {
-        last = next(word, k, last);
-        word[place_of(k)] = last;
+    for turn in table::ring() {
+        let (place, symbol) = next(word, turn, last);
+        word.bytes[place] = symbol;
+        last = symbol;
     }
 }

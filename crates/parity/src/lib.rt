@@ -48,10 +48,8 @@ impl<const N: usize> Symbols<N> {
         let Ok(copy) = <[u8; N]>::try_from(bytes) else {
             return Err(SymbolFault::Length);
         };
-        for (i, b) in bytes.iter().enumerate() {
-            if *b > 63 {
-                return Err(SymbolFault::Byte(i));
-            }
+        if let Some(i) = bytes.iter().position(|b| *b > 63) {
+            return Err(SymbolFault::Byte(i));
         }
         Ok(Symbols { bytes: copy })
     }
@@ -84,12 +82,7 @@ impl Symbols<162> {
         ensures sound { Sound bcnav3 }
         ensures altered { (c : Code) → Sound c → AlteredIsNone c }
     {
-        for r in 0..81usize {
-            if sum(&self.bytes, r) != 0 {
-                return Some(r);
-            }
-        }
-        None
+        table::rows().iter().position(|row| sum(self, row) != 0)
     }
 
     /// The sum of row `row`; 0 past the last row.
@@ -97,16 +90,19 @@ impl Symbols<162> {
         ensures same { result ≡ row_sum bcnav3 row self.now.bytes }
         ensures below { result < 64 }
     {
-        if row < 81 { sum(&self.bytes, row) } else { 0 }
+        match table::rows().get(row) {
+            Some(row) => sum(self, row),
+            None => 0,
+        }
     }
 
     /// The message that the word begins with.
     pub fn message(&self) -> Message
         ensures { result.bytes ≡ take 81 self.now.bytes }
     {
-        let mut bytes = [0; 81];
-        bytes.copy_from_slice(&self.bytes[0..81]);
-        Symbols { bytes }
+        Symbols {
+            bytes: *self.bytes.first_chunk().unwrap(),
+        }
     }
 }
 
@@ -117,11 +113,10 @@ impl Symbols<81> {
         ensures only { (v : List ℕ) → Encodes bcnav3 self.now.bytes v → v ≡ result.bytes }
     {
         let mut bytes = [0; 162];
-        for (i, b) in self.bytes.iter().enumerate() {
-            bytes[i] = *b;
-        }
-        encoder::fill(&mut bytes);
-        Symbols { bytes }
+        bytes[..81].copy_from_slice(&self.bytes);
+        let mut word = Symbols { bytes };
+        encoder::fill(&mut word);
+        word
     }
 }
 
@@ -130,13 +125,11 @@ pub fn factor_at(row: usize, place: usize) -> u8
     ensures same { result ≡ factor_of bcnav3 row place }
     ensures below { result < 64 }
 {
-    if row >= 81 {
+    let Some(row) = table::rows().get(row) else {
         return 0;
+    };
+    match row.iter().find(|entry| entry.0 as usize == place) {
+        Some(entry) => entry.1,
+        None => 0,
     }
-    for j in 0..4usize {
-        if table::place(row, j) == place {
-            return table::factor(row, j);
-        }
-    }
-    0
 }

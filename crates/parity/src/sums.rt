@@ -1,28 +1,29 @@
 //! The sums of the rows of the parity-check table.
 ghost use Rattle.std.specs.Prelude.{◌≡◌, ◌<◌};
-ghost use Rattle.parity.specs.Code.{SymbolList, sym_at, row_sum};
-ghost use Rattle.parity.specs.Ring.{term as term_at};
-ghost use Rattle.parity.specs.Table.{bcnav3};
+ghost use Rattle.std.specs.List.{Contains};
+ghost use Rattle.gf64.specs.Field.{mul};
+ghost use Rattle.parity.specs.Code.{sym_at, weighted};
+ghost use Rattle.parity.specs.Table.{rows, places_in, factors_in};
 
-use crate::table::{factor, place};
+use crate::Word;
+use crate::table::{Entry, Row};
 use gf64::product;
 
-/// The symbol at the place number `j` of row `r`, times its factor.
-pub(crate) fn term(word: &[u8; 162], r: usize, j: usize) -> u8
-    requires symbol_list { SymbolList 162 word.now }
-    requires r_bound { r < 81 }
-    requires j_bound { j < 4 }
-    ensures { result ≡ term_at r (sym_at word.now) j }
+/// The symbol at a place, times its factor.
+pub(crate) fn term(word: &Word, entry: &Entry) -> u8
+    requires { (entry.now.0 < 162) × (entry.now.1 < 64) }
+    ensures { result ≡ mul entry.now.1 (sym_at word.now.bytes entry.now.0) }
 {
-    product(factor(r, j), word[place(r, j)])
+    let (place, factor) = *entry;
+    product(factor, word.bytes[place as usize])
 }
 
-/// The sum of row `r`.
-pub(crate) fn sum(word: &[u8; 162], r: usize) -> u8
-    requires symbol_list { SymbolList 162 word.now }
-    requires r_bound { r < 81 }
-    ensures same { result ≡ row_sum bcnav3 r word.now }
+/// The sum of a row.
+pub(crate) fn sum(word: &Word, row: &Row) -> u8
+    requires { Contains rows row.now }
+    ensures same { result ≡ weighted (places_in row.now) (factors_in row.now) (sym_at word.now.bytes) }
     ensures below { result < 64 }
 {
-    (term(word, r, 0) ^ term(word, r, 1)) ^ (term(word, r, 2) ^ term(word, r, 3))
+    let [a, b, c, d] = row;
+    (term(word, a) ^ term(word, b)) ^ (term(word, c) ^ term(word, d))
 }

@@ -6,12 +6,12 @@ use Rattle.layout.specs.Placed.{placed, spread, reserved_of, parameters_of}
 use Rattle.layout.specs.Ranges.{first_outside}
 use Rattle.message.specs.Examined.{number_at}
 use Rattle.parity.specs.Code.{weighted}
-use Rattle.parity.specs.Table.{places, factors}
+use Rattle.parity.specs.Table.{rows, places, factors}
 use Rattle.known_answers.specs.Claims.{claims}
 use Rattle.known_answers.proofs.known_answers.Goals as goal
 
 pub returns : goal.returns
-unfolding claims mul mul_low times_x scaled weighted places factors crc_step crc_of crc_of_message number_at fields_of parts_of width_of placed spread reserved_of parameters_of first_outside
+unfolding claims mul mul_low times_x scaled weighted rows places factors crc_step crc_of crc_of_message number_at fields_of parts_of width_of placed spread reserved_of parameters_of first_outside
 returns c =
     record {
       count = refl;

@@ -1,30 +1,40 @@
-use Rattle.std.proofs.Common.{◌<◌, sym, ap, ◌∙◌, arith, lit<}
-use Rattle.parity.specs.Code.{factor_in, places_of, factors_of}
-use Rattle.parity.specs.Table.{bcnav3}
-use Rattle.parity.proofs.Rows.{row_four, row_past}
-use Rattle.parity.proofs.Weights.{factor_here, factor_nowhere}
+use Rattle.std.proofs.Common.{◌≡◌, ℕ, ◌<◌, eqb, sym, ap, ◌∙◌, lit<, rules, tests}
+use mathlib.Core.Path.{subst⁻¹}
+use Rattle.std.specs.Option.{option_map, option_map_or}
+use Rattle.std.proofs.lemmas.Iterator.{YieldsList-from_slice}
+use Rattle.std.proofs.lemmas.Iterator.Search.{find_from_yields_List}
+use Rattle.parity.specs.Code.{factor_in, factor_of}
+use Rattle.parity.specs.Table.{bcnav3, places_in, factors_in}
+use Rattle.parity.proofs.Rows.{factor_of_lt, row_got, row_missing, factor_of_is}
+use Rattle.parity.proofs.Weights.{factor_found}
 use Rattle.parity.proofs.factor_at.Goals as goal
+use Rattle.parity.proofs.factor_at.Goals.{After-find}
 
-pub returns-then-row-ge81 : goal.returns-then-row-ge81
+found : (c : After-find) → option_map_or (λ e. e.1) (option_map (λ x. x.now) c.find.result) 0 ≡ factor_of bcnav3 c.args.row c.args.place
+found c =
+    let x = c.args.place in
+    let row = c.in-Some.row.now in
+    let h = row_got c.rows.result.now c.args.row c.get.result c.in-Some.row c.rows.ensures c.get.ensures.lookup c.in-Some.is in
+    ap (λ o. option_map_or (λ e. e.1) o 0)
+    (find_from_yields_List (λ e. eqb e.0 x) _ _ c.find.result c.find.ensures.ran (YieldsList-from_slice row cc) (λ y b q k. search (rules, tests)))
+    ∙ factor_found x row
+    ∙ sym (factor_of_is c.args.row x ∙ ap (λ row. factor_in x (places_in row) (factors_in row)) h.1)
+
+below : (r x f : ℕ) → f ≡ factor_of bcnav3 r x → f < 64
+below r x f e = subst⁻¹ (λ (k : ℕ). k < 64) e (factor_of_lt r x)
+
+pub returns-in-Some-find : goal.returns-in-Some-find
+returns-in-Some-find c =
+    let e = rw c.in-Some-find.is at (found (goal.at.returns-in-Some-find c).After-find) in
+    record { same = e; below = below c.args.row c.args.place _ e }
+
+pub returns-in-None : goal.returns-in-None
+returns-in-None c =
+    let e = rw c.in-None.is at (found (goal.at.returns-in-None c).After-find) in
+    record { same = e; below = lit< tt }
+
+pub returns-in_default : goal.returns-in_default
 unfolding factor_in
-returns-then-row-ge81 c =
-    let r = c.args.row in
-    record { same = sym (ap (λ ps. factor_in c.args.place ps (factors_of bcnav3 r)) (row_past r c.if-row-ge81.true)); below = lit< tt }
-
-pub returns-then-place : goal.returns-then-place
-returns-then-place c =
-    let r = c.args.row in
-    let h : r < 81 = c.if-row-ge81.false in
-    let n = row_four r h in
-    let e = factor_here c.args.place (places_of bcnav3 r) (factors_of bcnav3 r) c.loop-j.j (n.0 ∙ sym n.1) (omega (arith, n.0))
-    (sym c.place.ensures.same ∙ c.if-place.true) c.loop-j.invariant in
-    record { same = c.factor.ensures.same ∙ e; below = c.factor.ensures.below }
-
-pub returns : goal.returns
-returns c =
-    let r = c.args.row in
-    let n = row_four r c.if-row-ge81.false in
-    record {
-      same = sym (factor_nowhere c.args.place (places_of bcnav3 r) (factors_of bcnav3 r) (λ k l. c.loop-j.invariant k (omega (arith, n.0))));
-      below = lit< tt;
-    }
+returns-in_default c =
+    let h = row_missing c.rows.result.now c.args.row c.get.result c.rows.ensures c.get.ensures.lookup c.in_default.is in
+    record { same = sym (factor_of_is c.args.row c.args.place ∙ ap (λ row. factor_in c.args.place (places_in row) (factors_in row)) h); below = lit< tt }

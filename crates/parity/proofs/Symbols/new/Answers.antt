@@ -1,30 +1,27 @@
-use Rattle.std.proofs.Common.{◌≡◌, ℕ, ◌<◌, List, length, get_or, Some, None, ap, ◌∙◌, arith, rules}
-use mathlib.Core.Path.{subst⁻¹}
-use Rattle.parity.specs.Bytes.{is_symbol}
+use Rattle.std.proofs.Common.{◌≡◌, Some, None, ltb, length, sym, ap, ◌∙◌, arith, rules, tests}
+use Rattle.std.proofs.lemmas.Bool.Decides.{nat_tests}
+use Rattle.std.proofs.lemmas.Iterator.{YieldsList-from_slice}
+use Rattle.std.proofs.lemmas.Iterator.Search.{position_from_yields_List}
+use Rattle.parity.specs.Bytes.{first, is_symbol}
 use Rattle.parity.proofs.Codewords.{by_byte}
-use Rattle.parity.proofs.Firsts.{first_none, first_at}
-use Rattle.parity.proofs.Small.{all_small}
+use Rattle.parity.proofs.Firsts.{first_position}
 use Rattle.parity.proofs.Symbols.new.Goals as goal
+use Rattle.parity.proofs.Symbols.new.Goals.{After-position}
 
-pub returns-then-b-gt63 : goal.returns-then-b-gt63
-returns-then-b-gt63 g c =
+found : (g : _) (c : After-position g) → first (length c.args.bytes.now) (is_symbol c.args.bytes.now) ≡ c.position.result
+found g c =
     let w = c.args.bytes.now in
-    let l : length w ≡ g.row.N = c.in-Ok.ensures.1.long in
-    by_byte g.row.N w (Some c.loop-i.i) l
-    (first_at (is_symbol w) g.row.N c.loop-i.i (omega arith) c.loop-i.invariant (search rules))
+    sym (position_from_yields_List (λ b. ltb 63 b) _ _ c.position.result c.position.ensures.ran (YieldsList-from_slice w cc) (λ x b q k. search (rules, tests))
+    ∙ first_position (λ b. ltb 63 b) (is_symbol w) w 0 (λ k h. grind (arith, nat_tests)))
 
-pub invariant_of-result : goal.invariant_of-result
-invariant_of-result g c =
-    let w = c.args.bytes.now in
-    let l : length w ≡ g.row.N = c.in-Ok.ensures.1.long in
-    let same : c.in-Ok.copy ≡ w = c.in-Ok.ensures.1.same in
-    record {
-      long = ap length same ∙ l;
-      small = λ k. subst⁻¹ (λ (v : List ℕ). get_or v k 0 < 64) same (all_small w g.row.N l (λ j h. c.loop-i.invariant j (omega arith)) k);
-    }
+pub returns-in-Some : goal.returns-in-Some
+returns-in-Some g c =
+    let l = c.in-Ok.ensures.1.long in
+    by_byte g.row.N c.args.bytes.now (Some c.in-Some.i) l (ap (λ n. first n (is_symbol c.args.bytes.now)) (sym l) ∙ found g (goal.at.returns-in-Some g c).After-position ∙ c.in-Some.is)
 
 pub returns : goal.returns
 returns g c =
-    let w = c.args.bytes.now in
-    let l : length w ≡ g.row.N = c.in-Ok.ensures.1.long in
-    (c.in-Ok.ensures.1.same, by_byte g.row.N w None l (first_none (is_symbol w) g.row.N (λ k h. c.loop-i.invariant k (omega arith))))
+    let l = c.in-Ok.ensures.1.long in (
+      c.in-Ok.ensures.1.same,
+      by_byte g.row.N c.args.bytes.now None l (ap (λ n. first n (is_symbol c.args.bytes.now)) (sym l) ∙ found g (goal.at.returns g c).After-position ∙ c.in_default-position.is),
+    )

@@ -1,32 +1,56 @@
-use Rattle.std.proofs.Common.{◌≡◌, ℕ, ◌<◌, ap, ◌∙◌, ap₂}
+use Rattle.std.proofs.Common.{◌≡◌, ℕ, ◌<◌, ◌-◌, get_or, [], List, ap, ◌∙◌, ap₂, arith, lit<}
 use mathlib.Core.Path.{subst⁻¹}
 use lib.Bits.{bit_xor}
-use Rattle.gf64.specs.Field.{mul, inv}
+use Rattle.gf64.specs.Field.{mul}
 use Rattle.gf64.proofs.Laws.{xor_small}
 use Rattle.parity.specs.Code.{sym_at}
-use Rattle.parity.specs.Ring.{message_sum, next, turn_at, from_factor, to_factor}
-use Rattle.parity.specs.Table.{factor_at}
-use Rattle.parity.specs.declared.table.Turn.{Turn}
-use Rattle.parity.proofs.Ring.{message_sum_lt}
+use Rattle.parity.specs.Ring.{message_sum, turned}
+use Rattle.parity.proofs.Ring.{message_sum_lt, turning}
+use Rattle.parity.proofs.Rows.{factor_lt, place_lt}
 use Rattle.parity.proofs.encoder.next.Goals as goal
 
+pub term-requires : goal.term-requires
+term-requires c =
+    let t = turning c.args.turn.now c.requires.in_ring in
+    rw c.rows.ensures (place_lt c.args.turn.now.0 0 t.row (lit< tt), factor_lt c.args.turn.now.0 0 t.row (lit< tt))
+
+pub term-requires-2 : goal.term-requires-2
+term-requires-2 c =
+    let t = turning c.args.turn.now c.requires.in_ring in
+    rw c.rows.ensures (place_lt c.args.turn.now.0 1 t.row (lit< tt), factor_lt c.args.turn.now.0 1 t.row (lit< tt))
+
 pub returns : goal.returns
-unfolding next message_sum
+unfolding turned message_sum
 returns c =
-    let w : ℕ → ℕ = sym_at c.args.word.now in
-    let k : ℕ = c.args.k in
-    let t : Turn = c.turn_at-turn.result in
-    let is : t ≡ turn_at k = c.turn_at-turn.ensures.same in
+    let word = c.args.word.now in
+    let w : ℕ → ℕ = sym_at word.bytes in
+    let p = c.args.turn.now in
+    let t = turning p c.requires.in_ring in
     let m : ℕ = bit_xor c.term.result c.term-2.result in
-    let here : m ≡ message_sum t.row w = ap₂ bit_xor c.term.ensures c.term-2.ensures in
-    let low : m < 64 = subst⁻¹ (λ (x : ℕ). x < 64) here (message_sum_lt w c.requires.symbol_list.small t.row c.turn_at-turn.ensures.row) in
-    let from : c.factor.result ≡ from_factor k = c.factor.ensures.same ∙ ap (λ s. factor_at s.row s.from) is in
-    let to : c.factor-2.result ≡ to_factor k = c.factor-2.ensures.same ∙ ap (λ s. factor_at s.row s.to) is in
+    let here : m ≡ message_sum p.0 w = ap₂ bit_xor (rw c.rows.ensures at c.term.ensures) (rw c.rows.ensures at c.term-2.ensures) in
+    let low : m < 64 = subst⁻¹ (λ (x : ℕ). x < 64) here (message_sum_lt w word.small p.0 t.row) in
+    let before = rw c.rows.ensures at c.product.ensures.same in
+    let back = rw c.rows.ensures at c.inverse.ensures.same in
     record {
-      same =
-          c.product.ensures.same c.inverse.ensures.below (xor_small m c.product-before.result low c.product-before.ensures.below)
-          ∙ ap₂ mul (c.inverse.ensures.same c.factor-2.ensures.below ∙ ap inv to)
-          (ap₂ bit_xor (here ∙ ap (λ s. message_sum s.row w) is)
-          (c.product-before.ensures.same c.factor.ensures.below c.requires.from_bound ∙ ap (λ x. mul x c.args.from) from));
-      below = c.product.ensures.below;
+      place = ap (λ (t : List (List (ℕ × ℕ))). (get_or (get_or t p.0 []) (5 - p.1) (0, 0)).0) c.rows.ensures;
+      symbol =
+          c.product-2.ensures.same c.inverse.ensures.below (xor_small m c.product.result low c.product.ensures.below)
+          ∙ ap₂ mul (back (factor_lt p.0 (5 - p.1) t.row (omega arith)))
+          (ap₂ bit_xor here (before (factor_lt p.0 p.1 t.row (omega arith)) c.requires.bound));
+      below = (rw c.rows.ensures (place_lt p.0 (5 - p.1) t.row (omega arith)), c.product-2.ensures.below);
     }
+
+pub bounds-rows-row : goal.bounds-rows-row
+bounds-rows-row c = (turning c.args.turn.now c.requires.in_ring).row
+
+pub bounds-row-from : goal.bounds-row-from
+bounds-row-from c = let t = turning c.args.turn.now c.requires.in_ring in omega arith
+
+pub overflow_sub-place : goal.overflow_sub-place
+overflow_sub-place c = let t = turning c.args.turn.now c.requires.in_ring in omega arith
+
+pub bounds-row-from-2 : goal.bounds-row-from-2
+bounds-row-from-2 c = let t = turning c.args.turn.now c.requires.in_ring in omega arith
+
+pub bounds-row-from-3 : goal.bounds-row-from-3
+bounds-row-from-3 c = let t = turning c.args.turn.now c.requires.in_ring in omega arith
