@@ -21,10 +21,10 @@ returns g c =
     record {
       answer = search rules;
       writes = search rules;
-      puts = taken_in b.site b.size g.met.K.Block.stands zs self.row.buf.now ts self.message_type self.done counted self.long unfit w.writes;
+      puts = taken_in b.site b.size g.met.K.Block.stands zs self.row.buf.now ts self.message_type self.done counted self.row.symbols.long unfit w.writes;
       drafted = λ n d.
           subst⁻¹ (λ (p : Place). Drafted self.message_type (set self.done p.number true) (take 81 ts)) is
-          (taken_on b.site b.size g.met.K.Block.stands zs self.row.buf.now ts self.message_type self.done counted self.long unfit w.writes n typed d);
+          (taken_on b.site b.size g.met.K.Block.stands zs self.row.buf.now ts self.message_type self.done counted self.row.symbols.long unfit w.writes n typed d);
       of = search rules;
       same = search rules;
     }
