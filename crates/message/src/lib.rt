@@ -24,7 +24,7 @@ use answer::Header;
 use fault::{MessageFault, WordFault};
 
 /// The last second of a week.
-const LAST_SECOND: u32 = 604_799;
+pub const LAST_SECOND: u32 = 604_799;
 
 /// Whether the last 24 bits are the CRC of the bits before them.
 fn crc_fits(message: &Message) -> bool

@@ -1,5 +1,5 @@
 -- A type and a second written over zeros.
-use Rattle.std.proofs.Common.{◌≡◌, ℕ, zero, suc, ◌-◌, ◌*◌, ◌<◌, ◌≤◌, List, ◌∷◌, ◌++◌, length, get_or, drop, replicate, refl, ap, ◌∙◌, arith, lit<}
+use Rattle.std.proofs.Common.{◌≡◌, ℕ, zero, suc, ◌-◌, ◌*◌, ◌<◌, List, ◌∷◌, ◌++◌, get_or, drop, replicate, refl, ap, ◌∙◌, arith, lit<}
 use Rattle.std.proofs.lemmas.List.{drop-replicate, replicate-append-replicate}
 use Rattle.bits.specs.Bits.{bits_of, pasted, spelled}
 use Rattle.bits.proofs.Pasted.{pasted_more}

@@ -1,6 +1,5 @@
 -- A draft after each step of the writer.
 use Rattle.std.proofs.Common.{◌≡◌, ℕ, zero, suc, ◌+◌, ◌<◌, ◌≤◌, Bool, true, false, cond, ◌&&◌, ◌||◌, eqb, ltb, leb, ◌≢◌, ◌⊎◌, List, length, get_or, take, set, replicate, ℤ, is_ok, Some, None, Ok, Err, Option, Result, sym, refl, ap, ◌∙◌, subst, inl, inr, arith}
-use mathlib.Core.Path.{subst⁻¹}
 use Rattle.std.proofs.lemmas.List.{length-take-le}
 use Rattle.std.proofs.lemmas.Bool.{and_parts, both_ways, cases_eq, eqb-true, leb-true, ltb-true, or_cases, or_left, or_right}
 use Rattle.bits.specs.Bits.{bits_of, pasted, spelled}
@@ -12,11 +11,10 @@ use Rattle.blocks.specs.Numbered.{Numbered, block_of}
 use Rattle.blocks.specs.Stands.{Stands}
 use Rattle.blocks.specs.Write.{first_unfit, written_over}
 use Rattle.blocks.specs.declared.place.Place.{Place}
-use Rattle.blocks.proofs.Accepted.{same_type}
 use Rattle.blocks.proofs.Written.{message_over}
 use Rattle.computed.proofs.Below.{all_below, each}
 use Rattle.crc.specs.Crc.{crc_of_message}
-use Rattle.layout.specs.Layout.{number_of, parts_of, type_of}
+use Rattle.layout.specs.Layout.{number_of, parts_of}
 use Rattle.layout.specs.Placed.{is_reserved}
 use Rattle.layout.specs.declared.MessageType.{MessageType}
 use Rattle.layout.specs.declared.MessageType.TheVariants.{Type10, Type30, Type40}
@@ -79,9 +77,8 @@ module _ (p : Place) (size : ℕ) (s : Stands p size) (zs : List ℤ) (ss ts : L
   pub taken_in : Numbered p → PutInto p zs (take 81 ss) (take 81 ts)
   taken_in = put_into p size s zs (take 81 ss) (take 81 ts) counted short message unfit
 
-  pub taken_on : Numbered p → number_of p.message_type ≡ number_of t → Drafted t done (take 81 ss) → Drafted t (set done p.number true) (take 81 ts)
-  taken_on k n d =
-      let e = same_type p.message_type t n in
+  pub taken_on : Numbered p → p.message_type ≡ t → Drafted t done (take 81 ss) → Drafted t (set done p.number true) (take 81 ts)
+  taken_on k e d =
       subst (λ (t : MessageType). Drafted t done (take 81 ss) → Drafted t (set done p.number true) (take 81 ts)) e
       (put_marked p size s zs (take 81 ss) (take 81 ts) counted short message unfit k done) d
 

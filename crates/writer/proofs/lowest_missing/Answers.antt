@@ -1,4 +1,4 @@
-use Rattle.std.proofs.Common.{◌-◌, sym, ap, ◌∙◌, arith}
+use Rattle.std.proofs.Common.{◌-◌, ap, ◌∙◌, arith}
 use Rattle.writer.proofs.Missing.{lowest, named}
 use Rattle.writer.proofs.lowest_missing.Goals as goal
 

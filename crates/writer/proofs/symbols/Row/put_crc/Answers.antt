@@ -1,4 +1,4 @@
-use Rattle.std.proofs.Common.{◌≡◌, ℕ, ap, ◌∙◌, arith}
+use Rattle.std.proofs.Common.{ℕ, ap, ◌∙◌, arith}
 use Rattle.bits.specs.Bits.{bits_of, pasted, spelled}
 use Rattle.crc.specs.Crc.{crc_of_message}
 use Rattle.writer.proofs.symbols.Row.put_crc.Goals as goal
