@@ -41,14 +41,14 @@ impl FrameFault {
 pub fn is_satellite(number: u8) -> bool
     ensures { result ≡ is_satellite number }
 {
-    number >= 6 && number <= 58
+    (6..=58).contains(&number)
 }
 
 /// The number that eight bits of the word from the bit `at` on write.
 ///
 /// Since `at` is even, two symbols have them all.
-fn word_byte(word: &[u8], at: usize) -> u8
-    requires { (at + 8 ≤ 6 * length word.now) × (at % 2 ≡ 0) }
+fn word_byte(word: &[u8; 162], at: usize) -> u8
+    requires { (at + 8 ≤ 972) × (at % 2 ≡ 0) }
     ensures { result ≡ number_from_digits 2 (part (bits_of word.now) at 8) }
 {
     let two = (word[at / 6] % 64) as u16 * 64 + (word[at / 6 + 1] % 64) as u16;
@@ -56,8 +56,10 @@ fn word_byte(word: &[u8], at: usize) -> u8
 }
 
 /// The byte `i` of the frame.
-fn frame_byte(word: &[u8], satellite: u8, i: usize) -> u8
-    requires { (length word.now ≡ 162) × ((satellite < 64) × (i < 125)) }
+///
+/// It is found by its number, since the header ends within a byte, and no symbols fill whole bytes from there on.
+fn frame_byte(word: &[u8; 162], satellite: u8, i: usize) -> u8
+    requires { (satellite < 64) × (i < 125) }
     ensures { result ≡ number_from_digits 2 (part (frame_bits satellite word.now) (8 * i) 8) }
 {
     match i {
@@ -86,8 +88,7 @@ pub fn ask_frame(length: usize, satellite: u8) -> Result<(), FrameFault>
 /// Fills the buffer with the frame of the coded word, the low six bits of 162 bytes.
 ///
 /// A buffer that it refuses to fill stays as it is.
-pub fn write_frame(word: &[u8], satellite: u8, out: &mut [u8]) -> Result<(), FrameFault>
-    requires { length word.now ≡ 162 }
+pub fn write_frame(word: &[u8; 162], satellite: u8, out: &mut [u8]) -> Result<(), FrameFault>
     ensures answer { result ≡ frame_answer (length out.old) satellite }
     ensures bits { MatchResult result (λ _. bytes_bits out.new ≡ frame_bits satellite word.now) (λ _. out.new ≡ out.old) }
 {

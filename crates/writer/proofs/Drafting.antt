@@ -1,6 +1,5 @@
 -- A draft after each step of the writer.
-use Rattle.std.proofs.Common.{◌≡◌, ℕ, zero, suc, ◌+◌, ◌<◌, ◌≤◌, Bool, true, false, cond, ◌&&◌, ◌||◌, eqb, ltb, leb, ◌≢◌, List, length, get_or, take, set, replicate, ℤ, is_ok, Some, None, Ok, Err, Option, Result, sym, refl, ap, ◌∙◌, subst, inl, inr, arith}
-use mathlib.Core.Path.{subst⁻¹}
+use Rattle.std.proofs.Common.{◌≡◌, ℕ, zero, suc, ◌+◌, ◌<◌, ◌≤◌, Bool, true, false, cond, ◌&&◌, ◌||◌, eqb, ltb, leb, ◌≢◌, ◌⊎◌, List, length, get_or, take, set, replicate, ℤ, is_ok, Some, None, Ok, Err, Option, Result, sym, refl, ap, ◌∙◌, subst, inl, inr, arith}
 use Rattle.std.proofs.lemmas.List.{length-take-le}
 use Rattle.std.proofs.lemmas.Bool.{and_parts, both_ways, cases_eq, eqb-true, leb-true, ltb-true, or_cases, or_left, or_right}
 use Rattle.bits.specs.Bits.{bits_of, pasted, spelled}
@@ -12,11 +11,10 @@ use Rattle.blocks.specs.Numbered.{Numbered, block_of}
 use Rattle.blocks.specs.Stands.{Stands}
 use Rattle.blocks.specs.Write.{first_unfit, written_over}
 use Rattle.blocks.specs.declared.place.Place.{Place}
-use Rattle.blocks.proofs.Accepted.{same_type}
 use Rattle.blocks.proofs.Written.{message_over}
 use Rattle.computed.proofs.Below.{all_below, each}
 use Rattle.crc.specs.Crc.{crc_of_message}
-use Rattle.layout.specs.Layout.{number_of, parts_of, type_of}
+use Rattle.layout.specs.Layout.{number_of, parts_of}
 use Rattle.layout.specs.Placed.{is_reserved}
 use Rattle.layout.specs.declared.MessageType.{MessageType}
 use Rattle.layout.specs.declared.MessageType.TheVariants.{Type10, Type30, Type40}
@@ -26,7 +24,7 @@ use Rattle.message.specs.Lawful.{number_at}
 use Rattle.message.proofs.Laws.{lawful_examined}
 use Rattle.parity.specs.Code.{SymbolList}
 use Rattle.parity.proofs.Codewords.{take_symbols}
-use Rattle.writer.specs.Answers.{by_field, draft_type, missing, seal_answer, start_answer}
+use Rattle.writer.specs.Answers.{by_field, missing, seal_answer, start_answer}
 use Rattle.writer.specs.declared.fault.WriterFault.{WriterFault}
 use Rattle.written.specs.Drafted.{Drafted, PutInto, SealedAs, is_written}
 use Rattle.written.specs.Written.{start_bits}
@@ -41,34 +39,25 @@ passed false r e t = let z : ◌≡◌ {A = ℕ} 0 1 = cc in absurd (omega arith
 
 -- what a yes to starting says
 pub record Startable (n t s : ℕ) : Type 0 where
-  pub long : n ≡ 162
-  pub number : number_of (draft_type t) ≡ t
-  pub typed : type_of t ≡ Some (draft_type t)
-  pub apart : draft_type t ≢ Type40
+  pub number : (t ≡ 10) ⊎ (t ≡ 30)
   pub second : s ≤ 604799
-
-ten_or_thirty : (t : ℕ) → (eqb t 10 || eqb t 30) ≡ true
-    → (number_of (draft_type t) ≡ t) × (type_of t ≡ Some (draft_type t)) × (draft_type t ≢ Type40)
-ten_or_thirty t e =
-    elim (or_cases (eqb t 10) (eqb t 30) e) [
-      | inl a ↦ let is = eqb-true t 10 a in subst⁻¹ (λ (t : ℕ). (number_of (draft_type t) ≡ t) × (type_of t ≡ Some (draft_type t)) × (draft_type t ≢ Type40)) is
-          (refl, refl, λ x. let z : ◌≡◌ {A = ℕ} 0 1 = cc in omega arith)
-      | inr a ↦ let is = eqb-true t 30 a in subst⁻¹ (λ (t : ℕ). (number_of (draft_type t) ≡ t) × (type_of t ≡ Some (draft_type t)) × (draft_type t ≢ Type40)) is
-          (refl, refl, λ x. let z : ◌≡◌ {A = ℕ} 0 1 = cc in omega arith)
-    ]
 
 pub startable : (n t s : ℕ) → start_answer n t s ≡ Ok tt → Startable n t s
 startable n t s e =
     let a = passed (eqb n 162) _ _ e in
     let b = passed (eqb t 10 || eqb t 30) _ _ a.1 in
     let c = passed (leb s 604799) _ _ b.1 in
-    let k = ten_or_thirty t b.0 in
-    record { long = eqb-true n 162 a.0; number = k.0; typed = k.1; apart = k.2; second = leb-true s 604799 c.0 }
+    record {
+      number = elim (or_cases (eqb t 10) (eqb t 30) b.0) [ inl x ↦ inl (eqb-true t 10 x) | inr x ↦ inr (eqb-true t 30 x) ];
+      second = leb-true s 604799 c.0;
+    }
 
-pub drafted : (n t s : ℕ) (ss : List ℕ) → Startable n t s → bits_of ss ≡ start_bits t s → Drafted (draft_type t) (replicate 12 false) (take 81 ss)
-drafted n t s ss k e =
-    started (draft_type t) s (take 81 ss) k.apart k.second
-    (bits_take 81 ss ∙ ap (take 486) e ∙ ap (λ (n : ℕ). take 486 (start_bits n s)) (sym k.number))
+pub drafted : (k : MessageType) (n t s : ℕ) (ss : List ℕ) → Startable n t s → number_of k ≡ t → bits_of ss ≡ start_bits t s
+    → Drafted k (replicate 12 false) (take 81 ss)
+drafted k n t s ss h e bits =
+    let apart : k ≢ Type40 = λ x. let f : number_of k ≡ 40 = ap number_of x in elim h.number [ inl a ↦ omega arith | inr a ↦ omega arith ] in
+    started k s (take 81 ss) apart h.second
+    (bits_take 81 ss ∙ ap (take 486) bits ∙ ap (λ (n : ℕ). take 486 (start_bits n s)) (sym e))
 
 -- ---- put
 
@@ -88,9 +77,8 @@ module _ (p : Place) (size : ℕ) (s : Stands p size) (zs : List ℤ) (ss ts : L
   pub taken_in : Numbered p → PutInto p zs (take 81 ss) (take 81 ts)
   taken_in = put_into p size s zs (take 81 ss) (take 81 ts) counted short message unfit
 
-  pub taken_on : Numbered p → number_of p.message_type ≡ number_of t → Drafted t done (take 81 ss) → Drafted t (set done p.number true) (take 81 ts)
-  taken_on k n d =
-      let e = same_type p.message_type t n in
+  pub taken_on : Numbered p → p.message_type ≡ t → Drafted t done (take 81 ss) → Drafted t (set done p.number true) (take 81 ts)
+  taken_on k e d =
       subst (λ (t : MessageType). Drafted t done (take 81 ss) → Drafted t (set done p.number true) (take 81 ts)) e
       (put_marked p size s zs (take 81 ss) (take 81 ts) counted short message unfit k done) d
 

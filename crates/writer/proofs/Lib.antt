@@ -1,3 +1,4 @@
 mod Begun
 mod Drafting
+mod Missing
 mod Sealing

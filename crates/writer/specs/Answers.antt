@@ -18,10 +18,6 @@ start_answer n t s =
     (cond (t == 10 || t == 30) (cond (nat_le s 604799) (Ok tt) (Err Second)) (Err (UnknownType t)))
     (Err Length)
 
--- the type of a draft by its number, 10 or 30
-abbrev pub draft_type : ℕ → MessageType
-draft_type n = cond (n == 10) Type10 Type30
-
 -- the block is one of a draft's type; the numbers of blocks end at 11
 abbrev pub is_block_of : MessageType → Place → Bool
 is_block_of t p = nat_le p.number 11 && number_of p.message_type == number_of t

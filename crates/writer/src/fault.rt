@@ -1,7 +1,9 @@
 //! Why a step of writing is refused.
 ghost use Rattle.std.specs.Prelude.{◌≡◌};
+ghost use Rattle.writer.specs.Answers.{told};
 ghost use Rattle.writer.specs.Refused.{writer_refusal};
 
+use blocks::fault::BlockFault;
 use refusal::{Layer, Reason, Refusal};
 
 /// Why a draft is not begun, a block not put, or a draft not sealed.
@@ -21,6 +23,18 @@ pub enum WriterFault {
     Field(usize),
     /// The draft does not have this block, the lowest such.
     Missing(u8),
+}
+
+impl From<BlockFault> for WriterFault {
+    ghost from_gives = { λ e r. r ≡ told e };
+
+    fn from(fault: BlockFault) -> WriterFault {
+        match fault {
+            BlockFault::Symbols(_) => WriterFault::Length,
+            BlockFault::OtherType(block) => WriterFault::OtherType(block),
+            BlockFault::Field(bit) => WriterFault::Field(bit),
+        }
+    }
 }
 
 impl WriterFault {

@@ -4,7 +4,7 @@
 //! encoded. Each step consumes what the step before it made, over the same buffer. What a step would refuse can be asked first.
 #![tactic(auto)]
 
-ghost use Rattle.std.specs.Prelude.{◌≡◌, ℕ, ◌-◌, ◌<◌, ◌≤◌, true, false, ◌≢◌, List, length, take, replicate, is_ok, Some, None, Ok, MatchResult, OnOk, slice_index, slice_set};
+ghost use Rattle.std.specs.Prelude.{◌≡◌, ℕ, ◌-◌, ◌<◌, ◌≤◌, true, false, ◌≢◌, List, length, take, replicate, not, position, is_ok, Some, None, Ok, MatchResult, OnOk, IfSome, slice_set};
 ghost use Rattle.bits.specs.Bits.{bits_of, pasted, spelled};
 ghost use Rattle.blocks.specs.Held.{placed_of};
 ghost use Rattle.blocks.specs.Numbered.{Numbered};
@@ -18,46 +18,36 @@ ghost use Rattle.message.specs.Examined.{examined};
 ghost use Rattle.message.specs.Lawful.{Lawful, number_at};
 ghost use Rattle.parity.specs.Code.{Encodes};
 ghost use Rattle.parity.specs.Table.{bcnav3};
-ghost use Rattle.writer.specs.Answers.{start_answer, draft_type, told, by_field, put_answer, missing, seal_answer};
+ghost use Rattle.writer.specs.Answers.{start_answer, put_answer, missing, seal_answer};
 ghost use Rattle.written.specs.Drafted.{Drafted, PutInto, SealedAs};
 ghost use Rattle.written.specs.Written.{Counted, Full, HoldsAll, LawfulAs, start_bits, written_from};
 
-use blocks::fault::BlockFault;
-use blocks::{Block, write};
+use blocks::Block;
 use frames::{FrameFault, write_frame};
 use layout::MessageType;
+use message::LAST_SECOND;
 
 pub mod fault;
 mod symbols;
 
 use fault::WriterFault;
-
-/// The last second of a week.
-const LAST_SECOND: u32 = 604_799;
-
-/// The symbols of a lent buffer.
-#[derive(Drop)]
-struct Row<'a> {
-    buf: &'a mut [u8],
-}
+use symbols::Row;
 
 /// A message that is being written: its type, its second, and the blocks that were put.
+///
+/// That it is drafted stands in clauses: `put` takes any kind of block, and one with a wrong number would not keep it.
 #[derive(Drop)]
 pub struct Draft<'a> {
     row: Row<'a>,
     message_type: MessageType,
-    /// Which blocks it has, by their numbers.
+    /// Which blocks it has, by their numbers; no block has the number 0.
     done: [bool; 12],
-    ghost long: { length row.buf.now ≡ 162 },
-    ghost small: { (k : ℕ) → slice_index row.buf.now k < 64 },
 }
 
 /// A message that has every block of its type, and its CRC.
 #[derive(Drop)]
 pub struct Sealed<'a> {
     row: Row<'a>,
-    ghost long: { length row.buf.now ≡ 162 },
-    ghost small: { (k : ℕ) → slice_index row.buf.now k < 64 },
 }
 
 /// The word of a message.
@@ -74,23 +64,13 @@ pub fn ask_start(length: usize, number: u8, second: u32) -> Result<(), WriterFau
     if length != 162 {
         return Err(WriterFault::Length);
     }
-    if number != 10 && number != 30 {
+    let Some(MessageType::Type10 | MessageType::Type30) = MessageType::from_number(number) else {
         return Err(WriterFault::UnknownType(number));
-    }
+    };
     if second > LAST_SECOND {
         return Err(WriterFault::Second);
     }
     Ok(())
-}
-
-/// The type of a draft by its number, 10 or 30.
-fn type_of(number: u8) -> MessageType
-    ensures { result ≡ draft_type number }
-{
-    match number {
-        10 => MessageType::Type10,
-        _ => MessageType::Type30,
-    }
 }
 
 /// A draft of a type and a second, without a block, where `ask_start` refuses nothing.
@@ -104,13 +84,22 @@ pub fn start<'a>(buffer: &'a mut [u8], number: u8, second: u32) -> Draft<'a>
     ensures drafted { Drafted result.message_type result.done (take 81 result.row.buf.now) }
     ensures same { result.row.buf.ghost_name ≡ buffer.entry.ghost_name }
 {
-    let message_type = type_of(number);
-    symbols::begin(buffer, number, second);
+    let Some(message_type) = MessageType::from_number(number) else {
+        unreachable()
+    };
     Draft {
-        row: Row { buf: buffer },
+        row: Row::begin(buffer, number, second),
         message_type,
         done: [false; 12],
     }
+}
+
+/// The place of the first that is not done.
+fn first_undone(done: &[bool]) -> Option<usize>
+    ensures place { result ≡ position not done.now }
+    ensures within { IfSome result (λ i. i < length done.now) }
+{
+    done.iter().position(|done| !*done)
 }
 
 /// Of the blocks from `first` up to `end`, the lowest that is not done, as a fault.
@@ -118,39 +107,9 @@ fn lowest_missing(done: &[bool; 12], first: usize, end: usize) -> Result<(), Wri
     requires { (first ≤ end) × (end ≤ 12) }
     ensures { result ≡ missing first (end - first) done.now }
 {
-    for k in first..end {
-        if !done[k] {
-            return Err(WriterFault::Missing(k as u8));
-        }
-    }
-    Ok(())
-}
-
-/// A fault of a block as one of writing.
-fn of_block(fault: BlockFault) -> WriterFault
-    ensures { result ≡ told fault }
-{
-    match fault {
-        BlockFault::Symbols(_) => WriterFault::Length,
-        BlockFault::OtherType(block) => WriterFault::OtherType(block),
-        BlockFault::Field(bit) => WriterFault::Field(bit),
-    }
-}
-
-impl<'a> Row<'a> {
-    /// Writes a block over its bits, or names its first field out of range and changes nothing.
-    fn write<K: Block>(&mut self, of: &K::Record) -> Result<(), WriterFault>
-        requires { length self.old.buf.now ≡ 162 }
-        ensures answer { result ≡ by_field (first_unfit (placed_of K.site) (K.counts of.now)) }
-        ensures writes { MatchResult result (λ _. bits_of self.new.buf.now ≡ written_over K.site (K.counts of.now) (bits_of self.old.buf.now)) (λ _. self.new.buf.now ≡ self.old.buf.now) }
-        ensures long { length self.new.buf.now ≡ 162 }
-        ensures small { (k : ℕ) → slice_index self.old.buf.now k < 64 → slice_index self.new.buf.now k < 64 }
-        ensures same { self.new.buf.ghost_name ≡ self.old.buf.ghost_name }
-    {
-        match write::<K>(of, self.buf) {
-            Ok(()) => Ok(()),
-            Err(fault) => Err(of_block(fault)),
-        }
+    match first_undone(&done[first..end]) {
+        Some(i) => Err(WriterFault::Missing((first + i) as u8)),
+        None => Ok(()),
     }
 }
 
@@ -169,7 +128,7 @@ impl<'a> Draft<'a> {
         ensures same { self.new.row.buf.ghost_name ≡ self.old.row.buf.ghost_name }
     {
         let place = K::place();
-        if place.number > 11 || place.message_type.number() != self.message_type.number() {
+        if place.number > 11 || place.message_type != self.message_type {
             return Err(WriterFault::OtherType(place.number));
         }
         let at = place.number as usize;
@@ -205,13 +164,12 @@ impl<'a> Draft<'a> {
         ensures same { result.row.buf.ghost_name ≡ self.entry.row.buf.ghost_name }
     {
         let Draft {
-            row,
+            mut row,
             message_type: _,
             done: _,
         } = self;
-        let Row { buf } = row;
-        symbols::put_crc(buf);
-        Sealed { row: Row { buf } }
+        row.put_crc();
+        Sealed { row }
     }
 }
 
@@ -226,20 +184,30 @@ impl<'a> Sealed<'a> {
         ensures accepted { Lawful (take 81 self.entry.row.buf.now) → is_ok (checked result.buf.now) ≡ true }
         ensures same { result.buf.ghost_name ≡ self.entry.row.buf.ghost_name }
     {
-        let Sealed { row } = self;
+        let Sealed { mut row } = self;
+        row.put_checks();
         let Row { buf } = row;
-        symbols::put_checks(buf);
         Coded { buf }
     }
 }
 
 impl<'a> Coded<'a> {
+    /// The word.
+    fn word(&self) -> &[u8; 162]
+        ensures { result.now ≡ self.now.buf.now }
+    {
+        let Some(word) = self.buf.as_array() else {
+            unreachable()
+        };
+        word
+    }
+
     /// Fills a buffer of 125 bytes with the frame of the word for a satellite, or refuses and changes nothing.
     pub fn frame(&self, satellite: u8, out: &mut [u8]) -> Result<(), FrameFault>
         ensures answer { result ≡ frame_answer (length out.old) satellite }
         ensures bits { MatchResult result (λ _. bytes_bits out.new ≡ frame_bits satellite self.now.buf.now) (λ _. out.new ≡ out.old) }
     {
-        write_frame(self.buf, satellite, out)
+        write_frame(self.word(), satellite, out)
     }
 
     /// The lent buffer, which holds the word.

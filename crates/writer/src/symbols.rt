@@ -1,62 +1,79 @@
-//! The steps of writing over the 162 symbols of a buffer.
-ghost use Rattle.std.specs.Prelude.{◌≡◌, ℕ, ◌<◌, List, length, take, slice_index};
+//! The 162 symbols of a lent buffer, and the steps of writing over them.
+ghost use Rattle.std.specs.Prelude.{◌≡◌, ℕ, List, length, take, MatchResult};
 ghost use Rattle.bits.specs.Bits.{bits_of, pasted, spelled};
+ghost use Rattle.blocks.specs.Held.{placed_of};
+ghost use Rattle.blocks.specs.Write.{first_unfit, written_over};
 ghost use Rattle.crc.specs.Crc.{crc_of_message};
 ghost use Rattle.parity.specs.Code.{Encodes, SymbolList};
 ghost use Rattle.parity.specs.Table.{bcnav3};
-ghost use Rattle.writer.specs.Start.{blanks};
+ghost use Rattle.writer.specs.Answers.{by_field};
 ghost use Rattle.written.specs.Written.{start_bits};
 
+use crate::fault::WriterFault;
 use bits::put_bits;
+use blocks::{Block, write};
 use crc::crc24q;
 use parity::Message;
 
-fn blank(symbols: &mut [u8])
-    requires { length symbols.old ≡ 162 }
-    ensures { symbols.new ≡ blanks }
-{
-    symbols.copy_from_slice(&[0; 162]);
+/// The symbols of a lent buffer.
+///
+/// They are a slice and no array: to make it one lends the buffer anew, and its owner could not tell what it holds in the end.
+#[derive(Drop)]
+pub(crate) struct Row<'a> {
+    pub(crate) buf: &'a mut [u8],
+    ghost symbols: { SymbolList 162 buf.now },
 }
 
-/// Makes the symbols a type, a second, and zeros.
-pub(crate) fn begin(symbols: &mut [u8], number: u8, second: u32)
-    requires { length symbols.old ≡ 162 }
-    ensures bits { bits_of symbols.new ≡ start_bits number second }
-    ensures symbols { SymbolList 162 symbols.new }
-{
-    blank(symbols);
-    put_bits(symbols, 0, 6, number as u64);
-    put_bits(symbols, 6, 20, second as u64);
-}
+impl<'a> Row<'a> {
+    /// Makes the symbols a type, a second, and zeros.
+    pub(crate) fn begin(buf: &'a mut [u8], number: u8, second: u32) -> Row<'a>
+        requires { length buf.old ≡ 162 }
+        ensures bits { bits_of result.buf.now ≡ start_bits number second }
+        ensures same { result.buf.ghost_name ≡ buf.entry.ghost_name }
+    {
+        buf.fill(0);
+        put_bits(buf, 0, 6, number as u64);
+        put_bits(buf, 6, 20, second as u64);
+        Row { buf }
+    }
 
-/// The symbols of the message.
-fn message_of(symbols: &[u8]) -> [u8; 81]
-    requires { length symbols.now ≡ 162 }
-    ensures { result ≡ take 81 symbols.now }
-{
-    let mut message = [0; 81];
-    message.copy_from_slice(&symbols[0..81]);
-    message
-}
+    /// The symbols of the message.
+    fn message(&self) -> &[u8; 81]
+        ensures { result.now ≡ take 81 self.now.buf.now }
+    {
+        let Some(message) = self.buf.first_chunk() else {
+            unreachable()
+        };
+        message
+    }
 
-/// Writes the CRC of the message into its last 24 bits.
-pub(crate) fn put_crc(symbols: &mut [u8])
-    requires { length symbols.old ≡ 162 }
-    ensures bits { bits_of symbols.new ≡ pasted (bits_of symbols.old) 462 (spelled 24 (crc_of_message (take 81 symbols.old))) }
-    ensures small { (k : ℕ) → slice_index symbols.old k < 64 → slice_index symbols.new k < 64 }
-{
-    let crc = crc24q(&message_of(symbols));
-    put_bits(symbols, 462, 24, crc as u64);
-}
+    /// Writes a block over its bits, or names its first field out of range and changes nothing.
+    pub(crate) fn write<K: Block>(&mut self, of: &K::Record) -> Result<(), WriterFault>
+        ensures answer { result ≡ by_field (first_unfit (placed_of K.site) (K.counts of.now)) }
+        ensures writes { MatchResult result (λ _. bits_of self.new.buf.now ≡ written_over K.site (K.counts of.now) (bits_of self.old.buf.now)) (λ _. self.new.buf.now ≡ self.old.buf.now) }
+        ensures same { self.new.buf.ghost_name ≡ self.old.buf.ghost_name }
+    {
+        Ok(write::<K>(of, self.buf)?)
+    }
 
-/// Makes the symbols the word of the message that they begin with.
-pub(crate) fn put_checks(symbols: &mut [u8])
-    requires { SymbolList 162 symbols.old }
-    ensures encodes { Encodes bcnav3 (take 81 symbols.old) symbols.new }
-    ensures only { (v : List ℕ) → Encodes bcnav3 (take 81 symbols.old) v → v ≡ symbols.new }
-{
-    let Ok(message) = Message::new(&symbols[0..81]) else {
-        unreachable()
-    };
-    symbols.copy_from_slice(message.encode().bytes());
+    /// Writes the CRC of the message into its last 24 bits.
+    pub(crate) fn put_crc(&mut self)
+        ensures bits { bits_of self.new.buf.now ≡ pasted (bits_of self.old.buf.now) 462 (spelled 24 (crc_of_message (take 81 self.old.buf.now))) }
+        ensures same { self.new.buf.ghost_name ≡ self.old.buf.ghost_name }
+    {
+        let crc = crc24q(self.message());
+        put_bits(self.buf, 462, 24, crc as u64);
+    }
+
+    /// Makes the symbols the word of the message that they begin with.
+    pub(crate) fn put_checks(&mut self)
+        ensures encodes { Encodes bcnav3 (take 81 self.old.buf.now) self.new.buf.now }
+        ensures only { (v : List ℕ) → Encodes bcnav3 (take 81 self.old.buf.now) v → v ≡ self.new.buf.now }
+        ensures same { self.new.buf.ghost_name ≡ self.old.buf.ghost_name }
+    {
+        let Ok(message) = Message::new(self.message()) else {
+            unreachable()
+        };
+        self.buf.copy_from_slice(message.encode().bytes());
+    }
 }

@@ -1,14 +1,10 @@
-use Rattle.std.proofs.Common.{take, refl}
+use Rattle.std.proofs.Common.{take}
 use Rattle.message.proofs.Promises.{carries_checked, checked_encoded}
 use Rattle.writer.proofs.Sealed.encode.Goals as goal
 
-pub returns : goal.returns
-returns c =
-    let e = c.put_checks.ensures.encodes in
-    record {
-      encodes = e;
-      only = c.put_checks.ensures.only;
-      checked = checked_encoded _ _ e;
-      accepted = λ l. carries_checked c.put_checks.new.symbols (record { message = take 81 c.args.self.row.buf.now; lawful = l; encodes = e });
-      same = refl;
-    }
+pub returns-clause-checked : goal.returns-clause-checked
+returns-clause-checked c = checked_encoded _ _ c.put_checks.ensures.encodes
+
+pub returns-clause-accepted : goal.returns-clause-accepted
+returns-clause-accepted c l =
+    carries_checked _ (record { message = take 81 c.args.self.row.buf.now; lawful = l; encodes = c.put_checks.ensures.encodes })

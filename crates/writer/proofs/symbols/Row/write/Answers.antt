@@ -1,4 +1,5 @@
-use Rattle.std.proofs.Common.{◌≡◌, ℕ, List, ℤ, Some, None, Ok, Err, Option, Result, refl, ap, ◌∙◌, rules}
+use Rattle.std.proofs.Common.{◌≡◌, ℕ, List, ℤ, Some, None, Ok, Err, Option, Result, refl, ap, ◌∙◌}
+use Rattle.std.specs.Result.{IsErrAnd}
 use Rattle.blocks.specs.Held.{placed_of}
 use Rattle.blocks.specs.Read.{by_range}
 use Rattle.blocks.specs.Write.{first_unfit, write_answer}
@@ -6,7 +7,7 @@ use Rattle.blocks.specs.declared.fault.BlockFault.{BlockFault}
 use Rattle.blocks.specs.declared.place.Place.{Place}
 use Rattle.writer.specs.Answers.{by_field, told}
 use Rattle.writer.specs.declared.fault.WriterFault.{WriterFault}
-use Rattle.writer.proofs.Row.write.Goals as goal
+use Rattle.writer.proofs.symbols.Row.write.Goals as goal
 
 abbrev retold : Result (Unit {0}) BlockFault → Result (Unit {0}) WriterFault
 retold (Ok u) = Ok u
@@ -20,26 +21,16 @@ answer : (p : Place) (zs : List ℤ) (n : ℕ) (r : Result (Unit {0}) BlockFault
     → retold r ≡ by_field (first_unfit (placed_of p) zs)
 answer p zs n r long e = ap retold (e ∙ ap (write_answer p zs) long) ∙ by_field_lem (first_unfit (placed_of p) zs)
 
-pub returns-in-Ok : goal.returns-in-Ok
-returns-in-Ok g c =
-    let b = g.K.Block in
-    let e = c.in-Ok.ensures in
-    record {
-      answer = answer b.site (b.counts c.args.of.now) _ _ c.requires e.answer;
-      writes = e.written refl;
-      long = search rules;
-      small = e.small;
-      same = refl;
-    }
+err_is : (r : Result (Unit {0}) WriterFault) (f : BlockFault) → IsErrAnd r (λ e. e ≡ told f) → r ≡ Err (told f)
+err_is (Ok u) f h = absurd h
+err_is (Err e) f h = ap Err h
 
-pub returns-in-Err : goal.returns-in-Err
-returns-in-Err g c =
+pub returns-clause-answer : goal.returns-clause-answer
+returns-clause-answer g c =
     let b = g.K.Block in
-    let e = c.in-Err.ensures in
-    record {
-      answer = ap Err c.of_block.ensures ∙ answer b.site (b.counts c.args.of.now) _ _ c.requires e.answer;
-      writes = e.kept refl;
-      long = search rules;
-      small = e.small;
-      same = refl;
-    }
+    answer b.site (b.counts c.args.of.now) _ _ c.args.self.now.symbols.long c.in_ok-write.ensures.answer
+
+pub returns-in_err-write-clause-answer : goal.returns-in_err-write-clause-answer
+returns-in_err-write-clause-answer g c =
+    let b = g.K.Block in
+    err_is _ _ c.from_residual.ensures.1 ∙ answer b.site (b.counts c.args.of.now) _ _ c.args.self.now.symbols.long c.in_err-write.ensures.answer
