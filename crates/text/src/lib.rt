@@ -6,7 +6,7 @@
 #![tactic(auto)]
 
 ghost use Rattle.std.specs.Prelude.{◌≡◌, IfOk};
-ghost use Rattle.text.specs.Lines.{Unused, counted, finished, marked};
+ghost use Rattle.text.specs.Lines.{Unused, counted, finished, marked, named};
 ghost use Rattle.text.specs.declared.fault.Name.TheVariants.{Plain, Field};
 
 use blocks::Block;
@@ -25,6 +25,15 @@ struct Entry {
     name: String,
     count: i64,
     used: bool,
+}
+
+impl Entry {
+    /// Whether it has this name.
+    fn has_name(&self, name: Name) -> bool
+        ensures { result ≡ named name self.now }
+    {
+        name.is(self.name.as_str())
+    }
 }
 
 /// The lines of a text that say something, in their order. No name stands twice.
@@ -82,12 +91,10 @@ impl Entries {
     pub fn finish(&self) -> Result<(), TextFault>
         ensures { result ≡ finished self.now.list.items }
     {
-        for entry in self.list.iter() {
-            if !entry.used {
-                return Err(TextFault::Unknown { line: entry.line });
-            }
+        match self.list.iter().find(|entry| !entry.used) {
+            Some(entry) => Err(TextFault::Unknown { line: entry.line }),
+            None => Ok(()),
         }
-        Ok(())
     }
 
     /// Adds what a line says.
@@ -125,12 +132,7 @@ impl Entries {
 
     /// Whether a name stands on a line so far.
     fn has(&self, name: &str) -> bool {
-        for entry in self.list.iter() {
-            if entry.name.as_str() == name {
-                return true;
-            }
-        }
-        false
+        self.list.iter().any(|entry| entry.name.as_str() == name)
     }
 
     /// The number under a name, which is used from now on.
@@ -138,13 +140,12 @@ impl Entries {
         ensures value { result ≡ counted name self.old.list.items }
         ensures after { self.new.list.items ≡ marked name self.old.list.items }
     {
-        for held in self.list.iter_mut() {
-            if name.is(held.name.as_str()) {
-                held.used = true;
-                return Ok(held.count);
-            }
-        }
-        Err(TextFault::Missing(name))
+        let Some(i) = self.list.iter().position(|entry| entry.has_name(name)) else {
+            return Err(TextFault::Missing(name));
+        };
+        let held = &mut self.list[i];
+        held.used = true;
+        Ok(held.count)
     }
 }
 

@@ -1,36 +1,37 @@
-use Rattle.std.proofs.Common.{◌≡◌, ℕ, ◌+◌, ◌<◌, ◌≤◌, Bool, true, false, cond, List, ◌∷◌, length, get_or, drop, Ok, Err, sym, ap, ◌∙◌, subst}
-use Rattle.std.proofs.lemmas.List.{at_drop_more, at_drop_all}
+use Rattle.std.proofs.Common.{◌≡◌, Bool, true, false, not, cond, List, [], ◌∷◌, Ok, Err, Some, None, Option, Result, refl, sym, ap, ◌∙◌, rules, tests}
+use Rattle.std.proofs.lemmas.Iterator.{YieldsList-from_slice}
+use Rattle.std.proofs.lemmas.Iterator.Search.{find_from_yields_List}
+use Rattle.std.specs.List.{find}
+use Rattle.std.specs.Option.{option_copied}
 use Rattle.text.specs.declared.Entry.{Entry}
+use Rattle.text.specs.declared.fault.TextFault.{TextFault}
 use Rattle.text.specs.declared.fault.TextFault.TheVariants.{Unknown}
 use Rattle.text.specs.Lines.{finished}
 use Rattle.text.proofs.Entries.finish.Goals as goal
 
--- the line at hand is used, or is not
-step : (es vs : List Entry) (i : ℕ) (e : Entry) (used : Bool) → es ≡ vs → i < length es → e ≡ get_or es i e → e.used ≡ used
-    → cond used (finished (drop (i + 1) vs)) (Err (Unknown e.line)) ≡ finished (drop i vs)
+-- what is answered of the first line that is not used
+abbrev answer_of : Option Entry → Result (Unit {0}) TextFault
+answer_of None = Ok tt
+answer_of (Some e) = Err (Unknown e.line)
+
+abbrev unused : Entry → Bool
+unused e = not e.used
+
+first_unused : (es : List Entry) → answer_of (find unused es) ≡ finished es
 unfolding finished
-step es vs i e used same h is t =
-    let at : e ≡ get_or vs i e = subst (λ (l : List Entry). e ≡ get_or l i e) same is in
-    let rest = drop (i + 1) vs in
-    ap (λ (b : Bool). cond b (finished rest) (Err (Unknown e.line))) (sym t)
-    ∙ ap (λ (x : Entry). finished (x ∷ rest)) at
-    ∙ sym (at_drop_more finished vs i e (subst (λ (l : List Entry). i < length l) same h))
+first_unused [] = refl
+first_unused (e ∷ es) =
+    elim e.used as (λ (b : Bool). answer_of (cond (not b) (Some e) (find unused es)) ≡ cond b (finished es) (Err (Unknown e.line)))
+    [ true ↦ first_unused es | false ↦ refl ]
 
-past : (es vs : List Entry) (i : ℕ) → es ≡ vs → length es ≤ i → Ok tt ≡ finished (drop i vs)
-unfolding finished
-past es vs i same h = sym (at_drop_all finished vs i (subst (λ (l : List Entry). length l ≤ i) same h))
+pub returns-in-Some : goal.returns-in-Some
+returns-in-Some c =
+    let found : option_copied c.find.result ≡ find unused c.args.self.now.list.items =
+    find_from_yields_List unused _ _ c.find.result c.find.ensures.ran (YieldsList-from_slice c.args.self.now.list.items (cc)) (λ x b q k. search (rules, tests)) in
+    ap answer_of (sym (ap option_copied c.in-Some.is) ∙ found) ∙ first_unused c.args.self.now.list.items
 
-pub returns-then-not-entry : goal.returns-then-not-entry
-returns-then-not-entry c =
-    step _ _ c.loop-entry.entry-index c.entry-item.result false c.deref-entry-items.ensures.value
-    c.loop-entry-test.true c.entry-item.is c.if-not-entry.true
-    ∙ c.loop-entry.invariant
-
-pub loop-entry-preserved : goal.loop-entry-preserved
-loop-entry-preserved c =
-    step _ _ c.loop-entry.entry-index c.entry-item.result true c.deref-entry-items.ensures.value
-    c.loop-entry-test.true c.entry-item.is c.if-not-entry.false
-    ∙ c.loop-entry.invariant
-
-pub returns : goal.returns
-returns c = past _ _ c.loop-entry.entry-index c.deref-entry-items.ensures.value c.loop-entry-test.false ∙ c.loop-entry.invariant
+pub returns-in-None : goal.returns-in-None
+returns-in-None c =
+    let found : option_copied c.find.result ≡ find unused c.args.self.now.list.items =
+    find_from_yields_List unused _ _ c.find.result c.find.ensures.ran (YieldsList-from_slice c.args.self.now.list.items (cc)) (λ x b q k. search (rules, tests)) in
+    ap answer_of (sym (ap option_copied c.in-None.is) ∙ found) ∙ first_unused c.args.self.now.list.items

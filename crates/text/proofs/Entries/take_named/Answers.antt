@@ -1,124 +1,85 @@
-use Rattle.std.proofs.Common.{◌≡◌, ℕ, suc, ◌+◌, ◌<◌, ◌≤◌, Bool, true, false, cond, List, [], ◌∷◌, ◌++◌, length, get_or, take, drop, set, ℤ, Ok, Err, string_bytes, Decides, Result, sym, ap, ◌∙◌, subst, arith, w64, SFits, rules}
-use Rattle.std.proofs.lemmas.Slice.Eq.{bytes_eq-Decides}
-use Rattle.std.proofs.lemmas.List.{append_assoc, at_drop_more, at_drop_all, length-set, set-get_or, set_split, take_all, take_at, take_more}
+use Rattle.std.proofs.Common.{◌≡◌, ℕ, zero, suc, ◌<◌, Bool, true, false, cond, List, [], ◌∷◌, length, get_or, set, ℤ, Ok, Err, Result, MatchOption, refl, sym, ap, ◌∙◌, rules, tests, arith, w64, SFits}
 use Rattle.std.proofs.lemmas.Int.{to_z-of_z}
-use Rattle.std.specs.Str.{bytes_eq}
-use Rattle.text.specs.Lines.{as_used, counted, marked, named}
-use Rattle.text.specs.Names.{written}
+use Rattle.std.proofs.lemmas.Iterator.{YieldsList-from_slice, IsFirst-from_position}
+use Rattle.std.specs.List.{AllWithin, HoldsAt}
 use Rattle.text.specs.declared.Entry.{Entry}
 use Rattle.text.specs.declared.fault.Name.{Name}
 use Rattle.text.specs.declared.fault.TextFault.{TextFault}
 use Rattle.text.specs.declared.fault.TextFault.TheVariants.{Missing}
+use Rattle.text.specs.Lines.{as_used, counted, marked, named}
 use Rattle.text.proofs.Entries.take_named.Goals as goal
+use Rattle.text.proofs.Entries.take_named.Goals.{After-position}
 
-tested : (xs ys : List ℕ) (r : Bool) → Decides r (xs ≡ ys) → r ≡ bytes_eq xs ys
-tested xs ys r h = search (rules, bytes_eq-Decides)
+module _ (n : Name) where
+  abbrev Has : Entry → Type 0
+  Has e = named n e ≡ true
 
--- whether the line at hand has the name
-is_named : (s m w : List ℕ) (r b : Bool) → s ≡ m → Decides r (s ≡ w) → r ≡ b → bytes_eq m w ≡ b
-is_named s m w r b e h t = sym (tested m w r (subst (λ (x : List ℕ). Decides r (x ≡ w)) e h)) ∙ t
+  abbrev Lacks : Entry → Type 0
+  Lacks e = named n e ≡ false
 
-step_counted : (n : Name) (xs : List Entry) (i : ℕ) (d : Entry) (b : Bool) → i < length xs → named n (get_or xs i d) ≡ b
-    → cond b (Ok (get_or xs i d).count) (counted n (drop (i + 1) xs)) ≡ counted n (drop i xs)
-unfolding counted
-step_counted n xs i d b h t =
-    ap (λ (x : Bool). cond x (Ok (get_or xs i d).count) (counted n (drop (i + 1) xs))) (sym t)
-    ∙ sym (at_drop_more (counted n) xs i d h)
+  -- one step of each definition
+  count_here : (e : Entry) (es : List Entry) (b : Bool) → named n e ≡ b → cond b (Ok e.count) (counted n es) ≡ counted n (e ∷ es)
+  unfolding counted
+  count_here e es b h = ap (λ (x : Bool). cond x (Ok e.count) (counted n es)) (sym h)
 
-step_marked : (n : Name) (xs : List Entry) (i : ℕ) (d : Entry) (b : Bool) → i < length xs → named n (get_or xs i d) ≡ b
-    → cond b (as_used (get_or xs i d) ∷ drop (i + 1) xs) (get_or xs i d ∷ marked n (drop (i + 1) xs)) ≡ marked n (drop i xs)
-unfolding marked
-step_marked n xs i d b h t =
-    ap (λ (x : Bool). cond x (as_used (get_or xs i d) ∷ drop (i + 1) xs) (get_or xs i d ∷ marked n (drop (i + 1) xs))) (sym t)
-    ∙ sym (at_drop_more (marked n) xs i d h)
+  mark_here : (e : Entry) (es : List Entry) (b : Bool) → named n e ≡ b → cond b (as_used e ∷ es) (e ∷ marked n es) ≡ marked n (e ∷ es)
+  unfolding marked
+  mark_here e es b h = ap (λ (x : Bool). cond x (as_used e ∷ es) (e ∷ marked n es)) (sym h)
 
-abbrev Walked : Name → List Entry → List Entry → ℕ → Type 0
-Walked n os xs i =
-    (xs ≡ os) × (counted n (drop i xs) ≡ counted n xs) × (take i xs ++ marked n (drop i xs) ≡ marked n xs)
+  -- the first line of the name is line i
+  at_first : (es : List Entry) (i : ℕ) (d : Entry) → i < length es → HoldsAt Has es i → AllWithin Lacks es 0 i
+      → (Ok (get_or es i d).count ≡ counted n es) × (set es i (as_used (get_or es i d)) ≡ marked n es)
+  at_first [] i d h has lack = let z : ⊥ = omega arith in absurd z
+  at_first (e ∷ es) zero d h has lack = (count_here e es true (has d), mark_here e es true (has d))
+  at_first (e ∷ es) (suc i) d h has lack =
+      let rest = at_first es i d (omega arith) has (λ k x l m. lack (suc k) x (omega arith) (omega arith)) in
+      let no : named n e ≡ false = lack 0 d (omega arith) (omega arith) in
+      (rest.0 ∙ count_here e es false no, ap (λ (l : List Entry). e ∷ l) rest.1 ∙ mark_here e es false no)
 
-walk_on : (n : Name) (os xs : List Entry) (i : ℕ) (d : Entry) → i < length xs → named n (get_or xs i d) ≡ false
-    → Walked n os xs i → Walked n os (set xs i (get_or xs i d)) (i + 1)
-walk_on n os xs i d h t w =
-    subst (λ (l : List Entry). Walked n os l (i + 1)) (sym (set-get_or xs i d)) (
-      w.0,
-      step_counted n xs i d false h t ∙ w.1,
-      ap (λ (l : List Entry). l ++ marked n (drop (i + 1) xs)) (take_more xs i d h)
-          ∙ append_assoc (take i xs) (get_or xs i d ∷ []) (marked n (drop (i + 1) xs))
-          ∙ ap (λ (l : List Entry). take i xs ++ l) (step_marked n xs i d false h t)
-          ∙ w.2,
-    )
-
-used_here : (n : Name) (os xs : List Entry) (i : ℕ) (d : Entry) → i < length xs → named n (get_or xs i d) ≡ true
-    → Walked n os xs i → set xs i (as_used (get_or xs i d)) ≡ marked n os
-used_here n os xs i d h t w =
-    let next : suc i ≡ i + 1 = omega arith in
-    set_split xs i (as_used (get_or xs i d)) h
-    ∙ ap (λ (k : ℕ). take i xs ++ (as_used (get_or xs i d) ∷ drop k xs)) next
-    ∙ ap (λ (l : List Entry). take i xs ++ l) (step_marked n xs i d true h t)
-    ∙ w.2
-    ∙ ap (marked n) w.0
-
-found_here : (n : Name) (os xs : List Entry) (i : ℕ) (d : Entry) → i < length xs → named n (get_or xs i d) ≡ true
-    → Walked n os xs i → Ok (get_or xs i d).count ≡ counted n os
-found_here n os xs i d h t w = step_counted n xs i d true h t ∙ w.1 ∙ ap (counted n) w.0
-
-missing : (n : Name) (os xs : List Entry) (i : ℕ) → length xs ≤ i → Walked n os xs i → Err (Missing n) ≡ counted n os
-unfolding counted
-missing n os xs i h w = sym (at_drop_all (counted n) xs i h) ∙ w.1 ∙ ap (counted n) w.0
-
-unmarked : (n : Name) (os xs : List Entry) (i : ℕ) → length xs ≤ i → Walked n os xs i → xs ≡ marked n os
-unfolding marked
-unmarked n os xs i h w = search (rules, at_drop_all (marked n) xs i h, take_all i xs h, w.2, w.0)
+  -- no line has the name
+  at_none : (es : List Entry) → AllWithin Lacks es 0 (length es) → (Err (Missing n) ≡ counted n es) × (es ≡ marked n es)
+  unfolding counted marked
+  at_none [] lack = (refl, refl)
+  at_none (e ∷ es) lack =
+      let rest = at_none es (λ k x l m. lack (suc k) x (omega arith) (omega arith)) in
+      let no : named n e ≡ false = lack 0 e (omega arith) (omega arith) in
+      (rest.0 ∙ count_here e es false no, ap (λ (l : List Entry). e ∷ l) rest.1 ∙ mark_here e es false no)
 
 abbrev given : ℤ → Result ℤ TextFault
 given z = Ok z
 
-pub returns-then-is : goal.returns-then-is
-returns-then-is c =
-    let xs = c.loop-held.held-items in
-    let i = c.loop-held.held-index in
-    let d = c.held-item.result in
-    let n = c.args.name in
-    let g = get_or xs i d in
-    let os = c.deref_mut-held-items.result.now in
-    let here : i < length xs = search rules in
-    let fits : SFits w64 g.count = search rules in
-    let name : named n g ≡ true =
-    is_named c.as_str.result.now (string_bytes g.name) (written n) c.is.result true
-    c.as_str.ensures.value c.is.ensures c.if-is.true in
-    record {
-      value =
-          ap given (to_z-of_z w64 g.count fits)
-          ∙ found_here n os xs i d here name c.loop-held.invariant
-          ∙ ap (counted n) c.deref_mut-held-items.ensures.value;
-      after =
-          take_at (set xs i (as_used g)) _ _
-          (length-set xs i (as_used g) ∙ c.loop-held.auto.held-items ∙ c.deref_mut-held-items.ensures.len)
-          ∙ used_here n os xs i d here name c.loop-held.invariant
-          ∙ ap (marked n) c.deref_mut-held-items.ensures.value;
-    }
+-- where the position that was found is
+found : (c : After-position)
+    → MatchOption c.position.result (AllWithin (Lacks c.args.name) c.args.self.now.list.items 0 (length c.args.self.now.list.items))
+    (λ i. (i < length c.args.self.now.list.items) × HoldsAt (Has c.args.name) c.args.self.now.list.items i × AllWithin (Lacks c.args.name) c.args.self.now.list.items 0 i)
+found c =
+    IsFirst-from_position _ _ c.position.result (Has c.args.name) (Lacks c.args.name) c.position.ensures.ran
+    (YieldsList-from_slice c.args.self.now.list.items (cc)) (λ x q k. search (rules, tests)) (λ x q k. search (rules, tests))
 
-pub loop-held-preserved : goal.loop-held-preserved
-loop-held-preserved c =
-    let xs = c.loop-held.held-items in
-    let i = c.loop-held.held-index in
-    let g = get_or xs i c.held-item.result in
-    walk_on c.args.name c.deref_mut-held-items.result.now xs i c.held-item.result (search rules)
-    (is_named c.as_str.result.now (string_bytes g.name) (written c.args.name) c.is.result false
-    c.as_str.ensures.value c.is.ensures c.if-is.false)
-    c.loop-held.invariant
+pub returns-in_default-clause-value : goal.returns-in_default-clause-value
+returns-in_default-clause-value c =
+    let h = found (goal.at.returns-in_default-clause-value c).After-position in
+    (at_none c.args.name c.args.self.now.list.items (rw c.in_default.is at h)).0
 
-pub returns : goal.returns
-returns c =
-    let xs = c.loop-held.held-items in
-    let i = c.loop-held.held-index in
-    let n = c.args.name in
-    let os = c.deref_mut-held-items.result.now in
-    let past : length xs ≤ i = search rules in
-    record {
-      value = missing n os xs i past c.loop-held.invariant ∙ ap (counted n) c.deref_mut-held-items.ensures.value;
-      after =
-          take_at xs _ _ (c.loop-held.auto.held-items ∙ c.deref_mut-held-items.ensures.len)
-          ∙ unmarked n os xs i past c.loop-held.invariant
-          ∙ ap (marked n) c.deref_mut-held-items.ensures.value;
-    }
+pub returns-in_default-clause-after : goal.returns-in_default-clause-after
+returns-in_default-clause-after c =
+    let h = found (goal.at.returns-in_default-clause-after c).After-position in
+    (at_none c.args.name c.args.self.now.list.items (rw c.in_default.is at h)).1
+
+pub returns-clause-value : goal.returns-clause-value
+returns-clause-value c =
+    let es = c.args.self.now.list.items in
+    let e = c.index_mut-held.result.now in
+    let h = rw c.in-Some.is at (found (goal.at.returns-clause-value c).After-position) in
+    let fits : SFits w64 e.count = search rules in
+    ap given (to_z-of_z w64 e.count fits)
+    ∙ ap (λ (x : Entry). given x.count) c.index_mut-held.ensures.value
+    ∙ (at_first c.args.name es c.in-Some.i e h.0 h.1 h.2).0
+
+pub returns-clause-after : goal.returns-clause-after
+returns-clause-after c =
+    let es = c.args.self.now.list.items in
+    let e = c.index_mut-held.result.now in
+    let h = rw c.in-Some.is at (found (goal.at.returns-clause-after c).After-position) in
+    ap (λ (x : Entry). set es c.in-Some.i (as_used x)) c.index_mut-held.ensures.value
+    ∙ (at_first c.args.name es c.in-Some.i e h.0 h.1 h.2).1
