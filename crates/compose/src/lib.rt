@@ -37,7 +37,7 @@ use records::{Records, Type10Records, Type30Records};
 
 /// Whether the fields of a block may hold its counts, or the first that may not.
 fn ask_block<K: Block>(of: &K::Record) -> Result<(), WriterFault>
-    ensures { result ≡ by_field (first_unfit (placed_of K.site) (K.counts of.now)) }
+    ensures { result ≡ by_field (first_unfit (placed_of K.PLACE) (K.counts of.now)) }
 {
     match first_unfit::<K>(of) {
         Some(bit) => Err(WriterFault::Field(bit)),
@@ -84,7 +84,7 @@ fn ask(length: usize, second: u32, records: &Records) -> Result<(), WriterFault>
 
 /// Puts a block that was asked for. A block that is refused leaves a draft that cannot be sealed.
 fn put<K: Block>(draft: &mut Draft, of: &K::Record)
-    ensures step { Stepped K.site K.size (K.counts of.now) draft.old.message_type draft.old.done (take 81 draft.old.row.buf.now) draft.new.message_type draft.new.done (take 81 draft.new.row.buf.now) }
+    ensures step { Stepped K.PLACE K.size (K.counts of.now) draft.old.message_type draft.old.done (take 81 draft.old.row.buf.now) draft.new.message_type draft.new.done (take 81 draft.new.row.buf.now) }
     ensures same { draft.new.row.buf.ghost_name ≡ draft.old.row.buf.ghost_name }
 {
     let _ = draft.put::<K>(of);

@@ -21,7 +21,7 @@ use type30::week::Week;
 /// Whether the record comes back from a message full of ones, and the bits of other blocks stay.
 fn comes_back<K: Block>(of: &K::Record, count: usize) -> bool {
     let mut symbols = [63u8; 81];
-    symbols[0] = K::place().message_type.number();
+    symbols[0] = K::PLACE.message_type.number();
     if write::<K>(of, &mut symbols).is_err() {
         return false;
     }
@@ -78,7 +78,7 @@ fn ends<K: Block>(all: &[Field], i: usize, bit: usize, field: Field) -> u32 {
 
 /// Tries every field of a kind, prints a line, and says whether all went as it should.
 fn try_kind<K: Block + Described>(rt: &HostRuntime) -> anyhow::Result<bool> {
-    let place = K::place();
+    let place = K::PLACE;
     let all = fields(place.part);
     let mut bit = place.first_bit;
     let mut right = 0u32;

@@ -66,7 +66,7 @@ fn show<K: Block + Described>(rt: &HostRuntime, message: &Message) -> anyhow::Re
     match read::<K>(message.bytes()) {
         Ok(found) => {
             let block = K::NAME;
-            for i in 0..fields(K::place().part).len() {
+            for i in 0..fields(K::PLACE.part).len() {
                 let text = K::field_text(i);
                 let name = text.name;
                 let count = K::count(&found, i);

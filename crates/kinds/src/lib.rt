@@ -33,7 +33,7 @@ pub trait EachKind {
     fn kind<K: Block + Described>(&mut self) -> Result<(), Self::Fault>
     where
         K::Record: PartialEq,
-        ensures { OnOk result (step self.old K.site self.new) };
+        ensures { OnOk result (step self.old K.PLACE self.new) };
 }
 
 /// Visits every kind of block that a message of the type has, in the order of their bits, up to the first fault.

@@ -64,7 +64,7 @@ pub fn ask_start(length: usize, number: u8, second: u32) -> Result<(), WriterFau
     if length != 162 {
         return Err(WriterFault::Length);
     }
-    let Some(MessageType::Type10 | MessageType::Type30) = MessageType::from_number(number) else {
+    let Ok(MessageType::Type10 | MessageType::Type30) = MessageType::try_from(number) else {
         return Err(WriterFault::UnknownType(number));
     };
     if second > LAST_SECOND {
@@ -84,7 +84,7 @@ pub fn start<'a>(buffer: &'a mut [u8], number: u8, second: u32) -> Draft<'a>
     ensures drafted { Drafted result.message_type result.done (take 81 result.row.buf.now) }
     ensures same { result.row.buf.ghost_name ≡ buffer.entry.ghost_name }
 {
-    let Some(message_type) = MessageType::from_number(number) else {
+    let Ok(message_type) = MessageType::try_from(number) else {
         unreachable()
     };
     Draft {
@@ -120,14 +120,14 @@ impl<'a> Draft<'a> {
     /// field out of range. A kind that has the number of its part, as the eleven kinds do, leaves a draft that holds the block's
     /// counts, and the other blocks' as before; and a draft that was drafted stays so.
     pub fn put<K: Block>(&mut self, of: &K::Record) -> Result<(), WriterFault>
-        ensures answer { result ≡ put_answer self.old.message_type self.old.done K.site (K.counts of.now) }
-        ensures writes { MatchResult result (λ _. (bits_of self.new.row.buf.now ≡ written_over K.site (K.counts of.now) (bits_of self.old.row.buf.now)) × (self.new.done ≡ slice_set self.old.done K.site.number true)) (λ _. (self.new.row.buf.now ≡ self.old.row.buf.now) × (self.new.done ≡ self.old.done)) }
-        ensures puts { Numbered K.site → OnOk result (PutInto K.site (K.counts of.now) (take 81 self.old.row.buf.now) (take 81 self.new.row.buf.now)) }
-        ensures drafted { Numbered K.site → Drafted self.old.message_type self.old.done (take 81 self.old.row.buf.now) → Drafted self.new.message_type self.new.done (take 81 self.new.row.buf.now) }
+        ensures answer { result ≡ put_answer self.old.message_type self.old.done K.PLACE (K.counts of.now) }
+        ensures writes { MatchResult result (λ _. (bits_of self.new.row.buf.now ≡ written_over K.PLACE (K.counts of.now) (bits_of self.old.row.buf.now)) × (self.new.done ≡ slice_set self.old.done K.PLACE.number true)) (λ _. (self.new.row.buf.now ≡ self.old.row.buf.now) × (self.new.done ≡ self.old.done)) }
+        ensures puts { Numbered K.PLACE → OnOk result (PutInto K.PLACE (K.counts of.now) (take 81 self.old.row.buf.now) (take 81 self.new.row.buf.now)) }
+        ensures drafted { Numbered K.PLACE → Drafted self.old.message_type self.old.done (take 81 self.old.row.buf.now) → Drafted self.new.message_type self.new.done (take 81 self.new.row.buf.now) }
         ensures of { self.new.message_type ≡ self.old.message_type }
         ensures same { self.new.row.buf.ghost_name ≡ self.old.row.buf.ghost_name }
     {
-        let place = K::place();
+        let place = K::PLACE;
         if place.number > 11 || place.message_type != self.message_type {
             return Err(WriterFault::OtherType(place.number));
         }

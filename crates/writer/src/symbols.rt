@@ -49,8 +49,8 @@ impl<'a> Row<'a> {
 
     /// Writes a block over its bits, or names its first field out of range and changes nothing.
     pub(crate) fn write<K: Block>(&mut self, of: &K::Record) -> Result<(), WriterFault>
-        ensures answer { result ≡ by_field (first_unfit (placed_of K.site) (K.counts of.now)) }
-        ensures writes { MatchResult result (λ _. bits_of self.new.buf.now ≡ written_over K.site (K.counts of.now) (bits_of self.old.buf.now)) (λ _. self.new.buf.now ≡ self.old.buf.now) }
+        ensures answer { result ≡ by_field (first_unfit (placed_of K.PLACE) (K.counts of.now)) }
+        ensures writes { MatchResult result (λ _. bits_of self.new.buf.now ≡ written_over K.PLACE (K.counts of.now) (bits_of self.old.buf.now)) (λ _. self.new.buf.now ≡ self.old.buf.now) }
         ensures same { self.new.buf.ghost_name ≡ self.old.buf.ghost_name }
     {
         Ok(write::<K>(of, self.buf)?)

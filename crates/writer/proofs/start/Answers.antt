@@ -13,4 +13,4 @@ returns-clause-second c =
 pub returns-clause-drafted : goal.returns-clause-drafted
 returns-clause-drafted c =
     drafted _ _ c.args.number c.args.second c.begin.result.buf.now (startable _ c.args.number c.args.second c.requires)
-    (c.in-Some.ensures.inverse.own _ refl) c.begin.ensures.bits
+    (c.in-Ok.ensures.inverse.own _ refl) c.begin.ensures.bits

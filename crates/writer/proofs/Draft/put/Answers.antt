@@ -7,7 +7,7 @@ returns-clause-puts g c =
     let b = g.K.Block in
     let self = c.args.self.now in
     let w = c.in_ok-write.ensures in
-    taken_in b.site b.size g.met.K.Block.stands (b.counts c.args.of.now) self.row.buf.now c.write.new.self.buf.now self.message_type self.done
+    taken_in b.PLACE b.size g.met.K.Block.stands (b.counts c.args.of.now) self.row.buf.now c.write.new.self.buf.now self.message_type self.done
     (g.met.K.Block.counted c.args.of.now) self.row.symbols.long (fit _ _ w.answer refl) w.writes
 
 pub returns-clause-drafted : goal.returns-clause-drafted
@@ -15,7 +15,7 @@ returns-clause-drafted g c n d =
     let b = g.K.Block in
     let self = c.args.self.now in
     let w = c.in_ok-write.ensures in
-    let typed : b.site.message_type ≡ self.message_type = search rules in
-    rw c.place-place.ensures
-    (taken_on b.site b.size g.met.K.Block.stands (b.counts c.args.of.now) self.row.buf.now c.write.new.self.buf.now self.message_type self.done
+    let typed : b.PLACE.message_type ≡ self.message_type = search rules in
+    rw c.PLACE-place.ensures
+    (taken_on b.PLACE b.size g.met.K.Block.stands (b.counts c.args.of.now) self.row.buf.now c.write.new.self.buf.now self.message_type self.done
     (g.met.K.Block.counted c.args.of.now) self.row.symbols.long (fit _ _ w.answer refl) w.writes n typed d)

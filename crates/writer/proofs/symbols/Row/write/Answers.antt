@@ -28,9 +28,9 @@ err_is (Err e) f h = ap Err h
 pub returns-clause-answer : goal.returns-clause-answer
 returns-clause-answer g c =
     let b = g.K.Block in
-    answer b.site (b.counts c.args.of.now) _ _ c.args.self.now.symbols.long c.in_ok-write.ensures.answer
+    answer b.PLACE (b.counts c.args.of.now) _ _ c.args.self.now.symbols.long c.in_ok-write.ensures.answer
 
 pub returns-in_err-write-clause-answer : goal.returns-in_err-write-clause-answer
 returns-in_err-write-clause-answer g c =
     let b = g.K.Block in
-    err_is _ _ c.from_residual.ensures.1 ∙ answer b.site (b.counts c.args.of.now) _ _ c.args.self.now.symbols.long c.in_err-write.ensures.answer
+    err_is _ _ c.from_residual.ensures.1 ∙ answer b.PLACE (b.counts c.args.of.now) _ _ c.args.self.now.symbols.long c.in_err-write.ensures.answer
