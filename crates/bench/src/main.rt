@@ -7,9 +7,9 @@ use erasure::ErasureDecoder;
 use message::check;
 use nearest::NearestDecoder;
 use single_error::SingleErrorDecoder;
-use std::env;
 use std::io::Read;
 use std::time::Instant;
+use std::{array, env};
 use type10::ephemeris1::Ephemeris1;
 use type10::ephemeris2::Ephemeris2;
 use type10::integrity::Integrity;
@@ -79,13 +79,10 @@ fn time_frame(rt: &HostRuntime) -> anyhow::Result<()> {
 
 /// The levels of a word: +1 for bit 0 and -1 for bit 1.
 fn levels_of(word: &[u8; 162]) -> [f32; 972] {
-    let mut levels = [1.0f32; 972];
-    for (i, level) in levels.iter_mut().enumerate() {
-        if word[i / 6] >> (5 - i % 6) & 1 == 1 {
-            *level = -1.0;
-        }
-    }
-    levels
+    array::from_fn(|i| match word[i / 6] >> (5 - i % 6) & 1 {
+        0 => 1.0,
+        _ => -1.0,
+    })
 }
 
 fn time_asks<D: Decoder>(
