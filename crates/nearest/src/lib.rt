@@ -31,11 +31,8 @@ fn proposal<D: Decoder>(decoder: &mut D, levels: &[f32]) -> Result<Option<Word>,
 fn nearer(levels: &[f32], first: Option<Word>, second: Option<Word>) -> Option<Word>
     ensures { bytes_of result ≡ nearer_of levels.now (bytes_of first) (bytes_of second) }
 {
-    let Some(one) = first else {
-        return second;
-    };
-    let Some(other) = second else {
-        return first;
+    let (Some(one), Some(other)) = (first, second) else {
+        return first.or(second);
     };
     if is_nearer(&score_word(levels, &other), &score_word(levels, &one)) {
         second
