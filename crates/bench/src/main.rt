@@ -7,9 +7,9 @@ use erasure::ErasureDecoder;
 use message::check;
 use nearest::NearestDecoder;
 use single_error::SingleErrorDecoder;
-use std::env;
 use std::io::Read;
 use std::time::Instant;
+use std::{array, env};
 use type10::ephemeris1::Ephemeris1;
 use type10::ephemeris2::Ephemeris2;
 use type10::integrity::Integrity;
@@ -34,13 +34,8 @@ const ASKS: u32 = 1_000;
 fn time_check(rt: &HostRuntime) -> anyhow::Result<()> {
     let mut bytes = Vec::new(rt.alloc());
     rt.stdin().take(163).read_to_end(&mut bytes)?;
-    let mut accepted = 0u32;
     let start = Instant::now(rt)?;
-    for _ in 0..RUNS {
-        if check(&bytes).is_ok() {
-            accepted = accepted.saturating_add(1);
-        }
-    }
+    let accepted = (0..RUNS).filter(|_| check(&bytes).is_ok()).count();
     let mean = start.elapsed(rt)?.as_nanos() / u128::from(RUNS);
     println!(rt; "check: {mean} ns, {accepted} of {RUNS} accepted")?;
     Ok(())
@@ -79,13 +74,10 @@ fn time_frame(rt: &HostRuntime) -> anyhow::Result<()> {
 
 /// The levels of a word: +1 for bit 0 and -1 for bit 1.
 fn levels_of(word: &[u8; 162]) -> [f32; 972] {
-    let mut levels = [1.0f32; 972];
-    for (i, level) in levels.iter_mut().enumerate() {
-        if word[i / 6] >> (5 - i % 6) & 1 == 1 {
-            *level = -1.0;
-        }
-    }
-    levels
+    array::from_fn(|i| match word[i / 6] >> (5 - i % 6) & 1 {
+        0 => 1.0,
+        _ => -1.0,
+    })
 }
 
 fn time_asks<D: Decoder>(
@@ -94,14 +86,10 @@ fn time_asks<D: Decoder>(
     name: &str,
     levels: &[f32; 972],
 ) -> anyhow::Result<()> {
-    let mut given = 0u32;
     let start = Instant::now(rt)?;
-    for _ in 0..ASKS {
-        let mut word = [0u8; 162];
-        if decoder.ask(levels, &mut word) == Ok(true) {
-            given = given.saturating_add(1);
-        }
-    }
+    let given = (0..ASKS)
+        .filter(|_| decoder.ask(levels, &mut [0; 162]) == Ok(true))
+        .count();
     let mean = start.elapsed(rt)?.as_nanos() / u128::from(ASKS);
     println!(rt; "{name}: {mean} ns, {given} of {ASKS} given")?;
     Ok(())

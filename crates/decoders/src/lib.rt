@@ -4,10 +4,11 @@
 //! legal levels. The trait says what asking then answers and leaves in the buffer, and that is all that a caller knows.
 #![tactic(auto)]
 
-ghost use Rattle.std.specs.Prelude.{◌≡◌, ℕ, List, length, Some, None, MatchResult, OnOk, Float};
+ghost use Rattle.std.specs.Prelude.{◌≡◌, ℕ, List, length, is_some, Some, None, MatchResult, OnOk, Float};
 ghost use Rattle.decoders.specs.Asks.{answered, ask_fault, left, Rule};
-ghost use Rattle.levels.specs.Faults.{level_fault};
+ghost use Rattle.levels.specs.Faults.{level_fault, OkUnless};
 ghost use Rattle.levels.specs.Hard.{hard};
+ghost use Rattle.parity.specs.Words.{bytes_of};
 
 use levels::hard_decision;
 use parity::Word;
@@ -35,11 +36,23 @@ pub trait Decoder {
 
 /// The hard decision of levels for which a decoder is asked to fill a buffer of `size` bytes, refused as asking is.
 pub fn hard_decision_for(levels: &[f32], size: usize) -> Result<Word, AskFault>
-    ensures word { MatchResult result (λ w. (w.bytes ≡ hard levels.now) × (ask_fault levels.now size ≡ None)) (λ e. ask_fault levels.now size ≡ Some e) }
+    ensures word { OkUnless (ask_fault levels.now size) (λ w. w.bytes ≡ hard levels.now) result }
     ensures taken { OnOk result ((level_fault 972 levels.now ≡ None) × (size ≡ 162)) }
 {
     if size != 162 {
         return Err(AskFault::Buffer);
     }
     Ok(hard_decision(levels)?)
+}
+
+/// Fills the buffer with the word that was found and answers yes; where there is none the answer is no and the buffer stays as it is.
+pub fn give(found: Option<Word>, word: &mut [u8]) -> bool
+    requires { length word.old ≡ 162 }
+    ensures answer { result ≡ is_some found }
+    ensures buffer { word.new ≡ left None (bytes_of found) word.old }
+{
+    if let Some(codeword) = found {
+        word.copy_from_slice(codeword.bytes());
+    }
+    found.is_some()
 }

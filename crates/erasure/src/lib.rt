@@ -10,7 +10,7 @@ ghost use Rattle.erasure.specs.Erased.{erasure_size};
 use correction::erasures::fill_erasures;
 use correction::single::correct_single_error;
 use decoders::fault::AskFault;
-use decoders::{Decoder, hard_decision_for};
+use decoders::{Decoder, give, hard_decision_for};
 use weakness::two_weakest;
 
 /// Gives the only code word that differs from the hard decision in at most one symbol; failing that, the only one that agrees with it
@@ -41,12 +41,6 @@ impl Decoder for ErasureDecoder {
             let (first, second) = two_weakest(levels)?;
             found = fill_erasures(&decision, first, second);
         }
-        match found {
-            Some(codeword) => {
-                word.copy_from_slice(codeword.bytes());
-                Ok(true)
-            }
-            None => Ok(false),
-        }
+        Ok(give(found, word))
     }
 }

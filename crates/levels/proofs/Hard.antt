@@ -1,7 +1,7 @@
 -- The hard decision, its bits and its symbols.
-use Rattle.std.proofs.Common.{◌≡◌, ℕ, zero, suc, ◌+◌, ◌*◌, ◌/◌, ◌%◌, ◌<◌, List, [], ◌∷◌, map, length, get_or, drop, sym, refl, ap, ◌∙◌, add-zero, arith, lit<}
-use lib.Ieee.{Float, nan}
-use Rattle.std.proofs.lemmas.List.{ext_get_or, get_or-drop}
+use Rattle.std.proofs.Common.{◌≡◌, ℕ, zero, suc, ◌+◌, ◌*◌, ◌/◌, ◌%◌, ◌<◌, List, [], ◌∷◌, map, length, get_or, refl, ap, ◌∙◌, arith, lit<}
+use lib.Ieee.{Float}
+use Rattle.std.specs.Simd.{first_chunks}
 use Rattle.bits.specs.Bits.{bits_of}
 use Rattle.parity.specs.Code.{SymbolList}
 use Rattle.levels.specs.Hard.{hard, six, symbol_at}
@@ -20,36 +20,18 @@ length_hard (suc n) (a ∷ b ∷ c ∷ d ∷ []) h = absurd (omega arith)
 length_hard (suc n) (a ∷ b ∷ c ∷ d ∷ e ∷ []) h = absurd (omega arith)
 length_hard (suc n) (a ∷ b ∷ c ∷ d ∷ e ∷ f ∷ xs) h = ap suc (length_hard n xs (omega arith))
 
--- ---- symbol by symbol
-
-abbrev front : List Float → ℕ
-front xs = six (get_or xs 0 nan) (get_or xs 1 nan) (get_or xs 2 nan) (get_or xs 3 nan) (get_or xs 4 nan) (get_or xs 5 nan)
-
-at_front : (xs : List Float) (at : ℕ) → symbol_at xs at ≡ front (drop at xs)
-at_front xs at =
-    let a : get_or (drop at xs) 0 nan ≡ get_or xs at nan = get_or-drop at xs 0 nan ∙ ap (λ i. get_or xs i nan) (add-zero at) in
-    rw (a, get_or-drop at xs 1 nan, get_or-drop at xs 2 nan, get_or-drop at xs 3 nan, get_or-drop at xs 4 nan, get_or-drop at xs 5 nan)
-
-hard_front : (n k : ℕ) (xs : List Float) → length xs ≡ 6 * n → k < n → get_or (hard xs) k 0 ≡ front (drop (6 * k) xs)
+-- each six levels make a symbol
+pub hard_sixes : (n : ℕ) (xs : List Float) → length xs ≡ 6 * n → map (λ s. symbol_at s 0) (first_chunks 6 n xs) ≡ hard xs
 unfolding hard
-hard_front zero k xs h l = absurd (omega arith)
-hard_front (suc n) k [] h l = absurd (omega arith)
-hard_front (suc n) k (a ∷ []) h l = absurd (omega arith)
-hard_front (suc n) k (a ∷ b ∷ []) h l = absurd (omega arith)
-hard_front (suc n) k (a ∷ b ∷ c ∷ []) h l = absurd (omega arith)
-hard_front (suc n) k (a ∷ b ∷ c ∷ d ∷ []) h l = absurd (omega arith)
-hard_front (suc n) k (a ∷ b ∷ c ∷ d ∷ e ∷ []) h l = absurd (omega arith)
-hard_front (suc n) zero (a ∷ b ∷ c ∷ d ∷ e ∷ f ∷ xs) h l = refl
-hard_front (suc n) (suc k) (a ∷ b ∷ c ∷ d ∷ e ∷ f ∷ xs) h l =
-    let m : 6 * suc k ≡ suc (suc (suc (suc (suc (suc (6 * k)))))) = omega arith in
-    rw m (hard_front n k xs (omega arith) (omega arith))
-
--- symbols that are those of the levels, place by place
-pub hard_is : (n : ℕ) (ss : List ℕ) (xs : List Float) → length xs ≡ 6 * n → length ss ≡ n
-    → ((k : ℕ) → k < n → get_or ss k 0 ≡ symbol_at xs (6 * k)) → ss ≡ hard xs
-hard_is n ss xs h m at =
-    ext_get_or 0 ss (hard xs) (m ∙ sym (length_hard n xs h))
-    (λ k l. at k (omega arith) ∙ at_front xs (6 * k) ∙ sym (hard_front n k xs h (omega arith)))
+hard_sixes zero [] h = refl
+hard_sixes zero (a ∷ xs) h = absurd (omega arith)
+hard_sixes (suc n) [] h = absurd (omega arith)
+hard_sixes (suc n) (a ∷ []) h = absurd (omega arith)
+hard_sixes (suc n) (a ∷ b ∷ []) h = absurd (omega arith)
+hard_sixes (suc n) (a ∷ b ∷ c ∷ []) h = absurd (omega arith)
+hard_sixes (suc n) (a ∷ b ∷ c ∷ d ∷ []) h = absurd (omega arith)
+hard_sixes (suc n) (a ∷ b ∷ c ∷ d ∷ e ∷ []) h = absurd (omega arith)
+hard_sixes (suc n) (a ∷ b ∷ c ∷ d ∷ e ∷ f ∷ xs) h = ap (λ l. six a b c d e f ∷ l) (hard_sixes n xs (omega arith))
 
 -- ---- bit by bit
 

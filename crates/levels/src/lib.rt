@@ -6,12 +6,13 @@
 
 ghost use Rattle.std.specs.Prelude.{◌≡◌, ◌+◌, ◌/◌, ◌<◌, ◌≤◌, map, length, IfOk, Some, None, Decides, MatchOption, MatchResult};
 ghost use Rattle.bits.specs.Bits.{bits_of};
-ghost use Rattle.levels.specs.Faults.{first_illegal, level_fault, FirstIllegal, LegalBelow};
+ghost use Rattle.levels.specs.Faults.{first_illegal, level_fault, FirstIllegal, LegalBelow, OkUnless};
 ghost use Rattle.levels.specs.Hard.{hard, symbol_at};
 ghost use Rattle.levels.specs.Levels.{bit, legal, level_at, levels_in, Negative, WithinFour};
 
 use parity::Word;
 use std::alloc::{AllocError, Global};
+use std::array;
 use std::num::f32_from_bits_with_nan;
 
 pub mod fault;
@@ -61,34 +62,37 @@ pub fn examine(levels: &[f32], count: usize) -> Result<(), LevelFault>
     }
 }
 
-/// The symbol that the six levels from `at` on read as, most significant bit first.
-fn symbol_at(levels: &[f32], at: usize) -> u8
-    requires { at + 6 ≤ length levels.now }
-    ensures { result ≡ symbol_at levels.now at }
+/// The levels of a word: 972 legal ones.
+pub fn word_levels(levels: &[f32]) -> Result<&[f32; 972], LevelFault>
+    ensures { OkUnless (level_fault 972 levels.now) (λ xs. xs.now ≡ levels.now) result }
 {
-    let high = 32 * bit_of(levels[at]) + 16 * bit_of(levels[at + 1]) + 8 * bit_of(levels[at + 2]);
-    high + 4 * bit_of(levels[at + 3]) + 2 * bit_of(levels[at + 4]) + bit_of(levels[at + 5])
+    examine(levels, 972)?;
+    levels.as_array().ok_or(LevelFault::Length)
 }
 
-/// The symbols that 972 levels read as.
-fn symbols_of(levels: &[f32]) -> [u8; 162]
-    requires { length levels.now ≡ 972 }
+/// The symbol that six levels read as, most significant bit first.
+fn symbol_of(six: &[f32; 6]) -> u8
+    ensures { result ≡ symbol_at six.now 0 }
+{
+    let [a, b, c, d, e, f] = six.map(bit_of);
+    32 * a + 16 * b + 8 * c + 4 * d + 2 * e + f
+}
+
+/// The symbols that the levels of a word read as.
+fn symbols_of(levels: &[f32; 972]) -> [u8; 162]
     ensures { result ≡ hard levels.now }
 {
-    let mut symbols = [0; 162];
-    for (k, symbol) in symbols.iter_mut().enumerate() {
-        *symbol = symbol_at(levels, 6 * k);
-    }
-    symbols
+    let (sixes, _) = levels.as_chunks::<6>();
+    array::from_fn(|k| symbol_of(&sixes[k]))
 }
 
 /// The word whose bits are those that 972 legal levels read as.
 pub fn hard_decision(levels: &[f32]) -> Result<Word, LevelFault>
-    ensures word { MatchResult result (λ w. (w.bytes ≡ hard levels.now) × (level_fault 972 levels.now ≡ None)) (λ e. level_fault 972 levels.now ≡ Some e) }
+    ensures word { OkUnless (level_fault 972 levels.now) (λ w. w.bytes ≡ hard levels.now) result }
     ensures bits { IfOk result (λ w. bits_of w.bytes ≡ map bit levels.now) }
 {
-    examine(levels, 972)?;
-    let Ok(word) = Word::new(&symbols_of(levels)) else {
+    let symbols = symbols_of(word_levels(levels)?);
+    let Ok(word) = Word::new(&symbols) else {
         unreachable()
     };
     Ok(word)
@@ -106,9 +110,8 @@ pub fn read_levels(heap: Global, bytes: &[u8]) -> Result<Vec<f32>, AllocError>
     ensures { IfOk result (λ v. v.items ≡ levels_in bytes.now (length bytes.now / 4)) }
 {
     let mut levels = Vec::new(heap);
-    for i in 0..bytes.len() / 4 {
-        let at = 4 * i;
-        levels.push(level_from([bytes[at], bytes[at + 1], bytes[at + 2], bytes[at + 3]]))?;
+    for four in bytes.as_chunks::<4>().0 {
+        levels.push(level_from(*four))?;
     }
     Ok(levels)
 }

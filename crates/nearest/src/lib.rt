@@ -4,18 +4,19 @@
 ghost use Rattle.std.specs.Prelude.{◌≡◌, Some, None, MatchResult};
 ghost use Rattle.decoders.specs.Asks.{ask_fault};
 ghost use Rattle.decoders.specs.Reach.{Reach};
+ghost use Rattle.levels.specs.Faults.{OkUnless};
 ghost use Rattle.nearest.specs.Nearest.{nearer_of, nearest, proposed};
 ghost use Rattle.parity.specs.Words.{bytes_of};
 ghost use Rattle.std.proofs.Common.{rules};
 
-use decoders::Decoder;
 use decoders::fault::AskFault;
+use decoders::{Decoder, give};
 use parity::Word;
 use scores::{is_nearer, score_word};
 
 /// What a decoder proposes for the levels. Bytes that are not all symbols count as none.
 fn proposal<D: Decoder>(decoder: &mut D, levels: &[f32]) -> Result<Option<Word>, AskFault>
-    ensures answer { MatchResult result (λ o. (bytes_of o ≡ proposed (D.Decoder.rule decoder.old levels.now)) × (ask_fault levels.now 162 ≡ None)) (λ e. ask_fault levels.now 162 ≡ Some e) }
+    ensures answer { OkUnless (ask_fault levels.now 162) (λ o. bytes_of o ≡ proposed (D.Decoder.rule decoder.old levels.now)) result }
     ensures same { D.Decoder.rule decoder.new ≡ D.Decoder.rule decoder.old }
 {
     let mut bytes = [0; 162];
@@ -30,11 +31,8 @@ fn proposal<D: Decoder>(decoder: &mut D, levels: &[f32]) -> Result<Option<Word>,
 fn nearer(levels: &[f32], first: Option<Word>, second: Option<Word>) -> Option<Word>
     ensures { bytes_of result ≡ nearer_of levels.now (bytes_of first) (bytes_of second) }
 {
-    let Some(one) = first else {
-        return second;
-    };
-    let Some(other) = second else {
-        return first;
+    let (Some(one), Some(other)) = (first, second) else {
+        return first.or(second);
     };
     if is_nearer(&score_word(levels, &other), &score_word(levels, &one)) {
         second
@@ -72,13 +70,7 @@ impl<A: Decoder, B: Decoder> Decoder for NearestDecoder<A, B> {
         }
         let first = proposal(&mut self.first, levels)?;
         let second = proposal(&mut self.second, levels)?;
-        match nearer(levels, first, second) {
-            Some(nearest) => {
-                word.copy_from_slice(nearest.bytes());
-                Ok(true)
-            }
-            None => Ok(false),
-        }
+        Ok(give(nearer(levels, first, second), word))
     }
 }
 

@@ -9,11 +9,12 @@ ghost use Rattle.std.specs.Float.{float_max};
 ghost use Rattle.std.specs.Float.Ieee.{lt};
 ghost use Rattle.std.specs.Float.Ieee.Exact.{HasValue};
 ghost use Rattle.bits.specs.Bits.{bits_of};
+ghost use Rattle.levels.specs.Faults.{OkUnless};
 ghost use Rattle.scores.specs.Faults.{score_fault};
 ghost use Rattle.scores.specs.Scored.{distance as distance_of, score_of};
 ghost use Rattle.scores.specs.Whole.{EveryEighth, Exact};
 
-use levels::examine;
+use levels::word_levels;
 use parity::{SymbolFault, Word};
 
 pub mod fault;
@@ -60,8 +61,8 @@ pub fn score_word(levels: &[f32], word: &Word) -> Score
 {
     let mut sum = 0.0;
     let mut largest = 0.0f32;
-    for i in 0..levels.len().min(972) {
-        let d = distance(levels[i], word_bit(word, i));
+    for (i, level) in levels.iter().take(972).enumerate() {
+        let d = distance(*level, word_bit(word, i));
         let square = d * d;
         sum += square;
         largest = larger(largest, square);
@@ -78,12 +79,12 @@ pub fn is_nearer(a: &Score, b: &Score) -> bool
 }
 
 fn score_in_turn(levels: &[f32], word: &[u8]) -> Result<Score, ScoreFault>
-    ensures { MatchResult result (λ s. (s ≡ score_of levels.now word.now) × (score_fault levels.now word.now ≡ None)) (λ e. score_fault levels.now word.now ≡ Some e) }
+    ensures { OkUnless (score_fault levels.now word.now) (λ s. s ≡ score_of levels.now word.now) result }
 {
     if word.len() != 162 {
         return Err(ScoreFault::Symbols(SymbolFault::Length));
     }
-    examine(levels, 972)?;
+    let levels = word_levels(levels)?;
     let word = Word::new(word)?;
     Ok(score_word(levels, &word))
 }
@@ -93,7 +94,7 @@ fn score_in_turn(levels: &[f32], word: &[u8]) -> Result<Score, ScoreFault>
 /// It refuses a wrong length first, then the first illegal level, then the first byte above 63. Against levels that are whole eighths
 /// the score is exact; every eighth from -4 to 4 is a level.
 pub fn score_bytes(levels: &[f32], word: &[u8]) -> Result<Score, ScoreFault>
-    ensures answer { MatchResult result (λ s. (s ≡ score_of levels.now word.now) × (score_fault levels.now word.now ≡ None)) (λ e. score_fault levels.now word.now ≡ Some e) }
+    ensures answer { OkUnless (score_fault levels.now word.now) (λ s. s ≡ score_of levels.now word.now) result }
     ensures exact { IfOk result (Exact levels.now word.now) }
     ensures eighths { EveryEighth }
 {

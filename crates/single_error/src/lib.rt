@@ -15,7 +15,7 @@ ghost use Rattle.single_error.specs.Only.{single_size};
 
 use correction::single::correct_single_error;
 use decoders::fault::AskFault;
-use decoders::{Decoder, hard_decision_for};
+use decoders::{Decoder, give, hard_decision_for};
 
 /// Whether a code word was found, and how many changes of a symbol were tried for it.
 #[derive(Clone, Copy)]
@@ -47,11 +47,8 @@ impl SingleErrorDecoder {
     {
         let decision = hard_decision_for(levels, word.len())?;
         let correction = correct_single_error(&decision);
-        if let Some(corrected) = correction.word {
-            word.copy_from_slice(corrected.bytes());
-        }
         Ok(Trial {
-            found: correction.word.is_some(),
+            found: give(correction.word, word),
             number: correction.trials,
         })
     }

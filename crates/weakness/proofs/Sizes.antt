@@ -1,9 +1,13 @@
 -- The sizes of legal levels, and the smallest among some of them.
-use Rattle.std.proofs.Common.{◌≡◌, ℕ, zero, suc, ◌+◌, ◌*◌, ◌<◌, ◌≤◌, true, false, List, get_or, sym, refl, ap, ◌∙◌, inl, inr, add-zero, add-one, arith}
+use Rattle.std.proofs.Common.{◌≡◌, ℕ, zero, suc, ◌+◌, ◌*◌, ◌<◌, ◌≤◌, true, false, List, [], length, get_or, take, fold, sym, refl, ap, ◌∙◌, inl, inr, add-zero, zero-add, add-one, arith}
 use mathlib.Core.Path.{subst⁻¹}
 use lib.Ieee.{Float, nan, inf, fin, lt}
 use Rattle.std.proofs.lemmas.Bool.{cases_eq}
+use Rattle.std.proofs.lemmas.List.{take_all}
+use Rattle.std.proofs.lemmas.List.Sums.{fold_more}
 use Rattle.std.specs.Float.{float_min, float_with_sign}
+use Rattle.std.specs.Simd.{first_chunks}
+use Rattle.levels.proofs.Chunks.{in_chunk}
 use Rattle.levels.specs.Faults.{LegalBelow}
 use Rattle.levels.specs.Levels.{legal}
 use Rattle.levels.proofs.Means.{legal_within}
@@ -22,14 +26,31 @@ size_at xs l i h = legal_size (get_or xs i nan) (l i h)
 -- ---- the smallest
 
 -- of one level
-pub smallest_one : (xs : List Float) (at : ℕ) → smallest xs at 1 ≡ size xs at
+smallest_one : (xs : List Float) (at : ℕ) → smallest xs at 1 ≡ size xs at
 unfolding smallest
 smallest_one xs at =
     least_either (size xs at) (size xs (at + 0)) (λ x. x ≡ size xs at) refl (ap (size xs) (add-zero at))
 
-pub smallest_more : (xs : List Float) (at n : ℕ) → smallest xs at (n + 1) ≡ float_min (smallest xs at n) (size xs (at + n))
+-- of the first n of some levels
+smallest_fold : (xs : List Float) (n : ℕ) → n ≤ length xs
+    → fold (λ a x. float_min a (float_with_sign false x)) (size xs 0) (take n xs) ≡ smallest xs 0 n
 unfolding smallest
-smallest_more xs at n = rw add-one
+smallest_fold xs zero h = refl
+smallest_fold xs (suc n) h =
+    rw (← add-one n, fold_more (λ a x. float_min a (float_with_sign false x)) (size xs 0) xs n nan h, smallest_fold xs n (omega arith), zero-add n)
+
+-- of all six
+pub six_fold : (xs : List Float) → length xs ≡ 6 → fold (λ a x. float_min a (float_with_sign false x)) (size xs 0) xs ≡ weakness xs 0
+six_fold xs h = ap (fold (λ a x. float_min a (float_with_sign false x)) (size xs 0)) (sym (take_all 6 xs (omega arith))) ∙ smallest_fold xs 6 (omega arith)
+
+-- of the six levels of a place
+smallest_in : (xs : List Float) (m k n : ℕ) → k < m → n ≤ 6 → smallest (get_or (first_chunks 6 m xs) k []) 0 n ≡ smallest xs (6 * k) n
+unfolding smallest
+smallest_in xs m k zero l h = rw (in_chunk 6 m k 0 xs nan l (omega arith), add-zero (6 * k))
+smallest_in xs m k (suc n) l h = rw (smallest_in xs m k n l (omega arith), zero-add n, in_chunk 6 m k n xs nan l h)
+
+pub weakness_in : (xs : List Float) (m k : ℕ) → k < m → weakness (get_or (first_chunks 6 m xs) k []) 0 ≡ weakness xs k
+weakness_in xs m k l = smallest_in xs m k 6 l (omega arith)
 
 smallest_size : (xs : List Float) → LegalBelow xs 972 → (at n : ℕ) → at < 972 → at + n ≤ 972 → Size (smallest xs at n)
 unfolding smallest

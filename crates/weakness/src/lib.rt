@@ -7,10 +7,12 @@
 ghost use Rattle.std.specs.Prelude.{◌≡◌, ℕ, ◌<◌, length, get_or, IfOk, Some, None, MatchResult, OnOk, slice_index_or};
 ghost use Rattle.std.specs.Float.{float_min, nan};
 ghost use Rattle.decoders.specs.Asks.{ask_fault};
+ghost use Rattle.levels.specs.Faults.{OkUnless};
 ghost use Rattle.weakness.specs.Weakness.{lower_first, weakest_of, weakness, with_place, Least, Size, Weakest};
 
 use decoders::fault::AskFault;
-use levels::examine;
+use levels::word_levels;
+use std::array;
 
 /// The smaller of two numbers, and the other one where one is no number.
 fn smaller(a: f32, b: f32) -> f32
@@ -19,29 +21,20 @@ fn smaller(a: f32, b: f32) -> f32
     if a <= b || b.is_nan() { a } else { b }
 }
 
-/// The smallest size among the six levels of the symbol at `place`.
-fn weakness_at(levels: &[f32], place: usize) -> f32
-    requires { (length levels.now ≡ 972) × (place < 162) }
-    ensures { result ≡ weakness levels.now place }
+/// The smallest size among six levels.
+fn smallest_size(six: &[f32; 6]) -> f32
+    ensures { result ≡ weakness six.now 0 }
 {
-    let at = 6 * place;
-    let mut least = levels[at].abs();
-    for j in 1..6usize {
-        least = smaller(least, levels[at + j].abs());
-    }
-    least
+    six.iter()
+        .fold(six[0].abs(), |least, level| smaller(least, level.abs()))
 }
 
 /// The weakness of each place.
-fn weaknesses(levels: &[f32]) -> [f32; 162]
-    requires { length levels.now ≡ 972 }
+fn weaknesses(levels: &[f32; 972]) -> [f32; 162]
     ensures { (k : ℕ) → k < 162 → slice_index_or result k nan ≡ weakness levels.now k }
 {
-    let mut weak = [0.0; 162];
-    for (place, of_place) in weak.iter_mut().enumerate() {
-        *of_place = weakness_at(levels, place);
-    }
-    weak
+    let (sixes, _) = levels.as_chunks::<6>();
+    array::from_fn(|place| smallest_size(&sixes[place]))
 }
 
 /// The two weakest places so far, the weaker first, and one place more.
@@ -85,10 +78,10 @@ fn two_least(weak: &[f32; 162]) -> (usize, usize)
 
 /// The two weakest places of a word by its 972 levels, the lower first. Levels are refused as a decoder refuses them.
 pub fn two_weakest(levels: &[f32]) -> Result<(usize, usize), AskFault>
-    ensures places { MatchResult result (λ p. (p ≡ weakest_of levels.now) × (ask_fault levels.now 162 ≡ None)) (λ e. ask_fault levels.now 162 ≡ Some e) }
+    ensures places { OkUnless (ask_fault levels.now 162) (λ p. p ≡ weakest_of levels.now) result }
     ensures weakest { IfOk result (λ p. Weakest (weakness levels.now) p.0 p.1) }
     ensures least { OnOk result ((k : ℕ) → k < 162 → Least levels.now k) }
 {
-    examine(levels, 972)?;
+    let levels = word_levels(levels)?;
     Ok(two_least(&weaknesses(levels)))
 }

@@ -35,14 +35,14 @@ const WORD_LIMIT: u64 = 163;
 
 /// The bytes that hexadecimal digits write, two digits for each.
 fn parse_hexadecimal(heap: Global, digits: &str) -> anyhow::Result<Vec<u8>> {
-    let digits = digits.as_bytes();
-    if digits.len() % 2 != 0 {
+    let (pairs, odd) = digits.as_bytes().as_chunks::<2>();
+    if !odd.is_empty() {
         return Err(anyhow!("the word has an odd number of hexadecimal digits"));
     }
     let mut bytes = Vec::new(heap);
-    for i in 0..digits.len() / 2 {
-        let high = char::from(digits[2 * i]).to_digit(16);
-        let low = char::from(digits[2 * i + 1]).to_digit(16);
+    for [high, low] in pairs {
+        let high = char::from(*high).to_digit(16);
+        let low = char::from(*low).to_digit(16);
         let (Some(high), Some(low)) = (high, low) else {
             return Err(anyhow!("the word is not in hexadecimal digits; try --help"));
         };

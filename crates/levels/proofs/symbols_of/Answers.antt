@@ -1,15 +1,21 @@
-use Rattle.std.proofs.Common.{◌<◌, ◌≢◌, length, arith, length-set, get_or-set_other, get_or-set_same, below_more}
-use Rattle.levels.proofs.Hard.{hard_is}
+use Rattle.std.proofs.Common.{◌≡◌, ◌/◌, [], length, arith, rules, lit<}
+use Rattle.std.proofs.iter.Serving.{serving}
+use Rattle.levels.proofs.Hard.{hard_sixes}
+use Rattle.levels.proofs.Chunks.{made_map}
+use Rattle.levels.specs.Hard.{symbol_at}
 use Rattle.levels.proofs.symbols_of.Goals as goal
 
-pub loop-k-preserved : goal.loop-k-preserved
-loop-k-preserved c = (
-  simp length-set (omega arith),
-  below_more _ _
-      (λ k h. let ne : k ≢ c.loop-k.k = omega arith in rw get_or-set_other (c.loop-k.invariant.1 k h))
-      (let lt : c.loop-k.k < length c.loop-k.symbol-items = omega arith in rw get_or-set_same c.symbol_at.ensures),
-)
+pub from_fn-requires : goal.from_fn-requires
+from_fn-requires c =
+    let long : length c.as_chunks.result.0.now ≡ 162 = omega arith in
+    (lit< tt, grind (arith, serving))
 
 pub returns : goal.returns
 returns c =
-    hard_is 162 c.loop-k.symbol-items c.args.levels.now (omega arith) (omega arith) (λ k l. c.loop-k.invariant.1 k (omega arith))
+    let sixes = c.as_chunks.result.0.now in
+    let levels = c.args.levels.now in
+    let made = made_map (λ s. symbol_at s 0) sixes [] 0 _ _ (λ i y q k. (search rules, search rules)) c.from_fn.result 162 (omega arith) c.from_fn.ensures.items in
+    let front = c.as_chunks.ensures.front in
+    let count : length levels / 6 ≡ 162 = omega arith in
+    let all = hard_sixes 162 levels (omega arith) in
+    cc

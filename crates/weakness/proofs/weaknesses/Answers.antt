@@ -1,10 +1,23 @@
-use Rattle.std.proofs.Common.{◌<◌, ◌≢◌, length, arith, length-set, get_or-set_other, get_or-set_same, below_more}
+use Rattle.std.proofs.Common.{◌≡◌, ◌<◌, ◌/◌, [], length, get_or, sym, ap, ◌∙◌, arith, rules, lit<}
+use lib.Ieee.{nan}
+use Rattle.std.proofs.iter.Serving.{serving}
+use Rattle.std.proofs.lemmas.List.{get_or-map}
+use Rattle.levels.proofs.Chunks.{made_map}
+use Rattle.weakness.specs.Weakness.{weakness}
+use Rattle.weakness.proofs.Sizes.{weakness_in}
 use Rattle.weakness.proofs.weaknesses.Goals as goal
 
-pub loop-place-preserved : goal.loop-place-preserved
-loop-place-preserved c = (
-  simp length-set (omega arith),
-  below_more _ _
-      (λ k h. let ne : k ≢ c.loop-place.place = omega arith in rw get_or-set_other (c.loop-place.invariant.1 k h))
-      (let lt : c.loop-place.place < length c.loop-place.of_place-items = omega arith in rw get_or-set_same c.weakness_at.ensures),
-)
+pub from_fn-requires : goal.from_fn-requires
+from_fn-requires c =
+    let long : length c.as_chunks.result.0.now ≡ 162 = omega arith in
+    (lit< tt, grind (arith, serving))
+
+pub returns : goal.returns
+returns c =
+    let sixes = c.as_chunks.result.0.now in
+    let made = made_map (λ s. weakness s 0) sixes [] nan _ _ (λ i y q k. (search rules, search rules)) c.from_fn.result 162 (omega arith) c.from_fn.ensures.items in
+    λ k h.
+    ap (λ ws. get_or ws k nan) made
+    ∙ get_or-map (λ s. weakness s 0) sixes k [] nan (omega arith)
+    ∙ ap (λ cs. weakness (get_or cs k []) 0) c.as_chunks.ensures.front
+    ∙ weakness_in c.args.levels.now (length c.args.levels.now / 6) k (omega arith)
