@@ -47,6 +47,11 @@ asked (x ∷ xs) e =
 pub all_fit : (n s : ℕ) (r : Records) → write_answer n s r ≡ Ok tt → AllByRecursion (λ x. first_unfit (placed_of x.0) x.1 ≡ None) (all_counts_of r)
 all_fit n s r e = asked (all_counts_of r) (both (start_answer n (number_of (kind_of r)) s) (ask_all (all_counts_of r)) e).1
 
+-- the blocks are asked where the start agrees
+pub asked_in_turn : (n s : ℕ) (r : Records) (a : Result (Unit {0}) WriterFault) → Ok tt ≡ start_answer n (number_of (kind_of r)) s
+    → a ≡ ask_all (all_counts_of r) → a ≡ write_answer n s r
+asked_in_turn n s r a e h = h ∙ ap (λ (b : Result (Unit {0}) WriterFault). in_turn b (ask_all (all_counts_of r))) e
+
 -- the blocks that are marked, newest first
 abbrev pub marked : List Counted → List Bool
 marked [] = replicate 12 false
@@ -96,11 +101,11 @@ answers_yes : (t : MessageType) (done : List Bool) (p : Place) (zs : List ℤ) �
 answers_yes t done p zs b d f = rw (b, d, f)
 
 -- one block more
-pub step : (p : Place) (size : ℕ) (zs : List ℤ) (s : ℕ) (xs : List Counted) (k k' : MessageType) (done done' : List Bool) (m m' : List ℕ)
+pub step : {p : Place} {size : ℕ} {zs : List ℤ} {s : ℕ} {xs : List Counted} {k k' : MessageType} {done done' : List Bool} {m m' : List ℕ}
     → Numbered p → Partly p.message_type s xs k done m → Stepped p size zs k done m k' done' m' → is_block_of p.message_type p ≡ true
     → get_or (marked xs) p.number false ≡ false → unlike p.number xs ≡ true → first_unfit (placed_of p) zs ≡ None
     → Partly p.message_type s ((p, zs) ∷ xs) k' done' m'
-step p size zs s xs k k' done done' m m' n h e b d u f =
+step {p} {size} {zs} {s} {xs} {k} {k'} {done} {done'} {m} {m'} n h e b d u f =
     let ready : put_answer k done p zs ≡ Ok tt =
     answers_yes k done p zs (ap (λ (t : MessageType). is_block_of t p) h.typed ∙ b) (ap (λ (l : List Bool). get_or l p.number false) h.marks ∙ d) f in
     let q = e.puts ready in
@@ -114,8 +119,8 @@ step p size zs s xs k k' done done' m m' n h e b d u f =
     }
 
 -- a block of the lawful message that the draft m is sealed to
-pub read_one : {R : Type 0} (t : MessageType) (m v : List ℕ) (x : Counted) (made : List ℤ → R) → SealedAs t m v → Held t m x → read_as x.0 made v ≡ Ok (made x.1)
-read_one t m v x made e h =
+pub read_one : {R : Type 0} {t : MessageType} {m v : List ℕ} {x : Counted} (made : List ℤ → R) → SealedAs t m v → Held t m x → read_as x.0 made v ≡ Ok (made x.1)
+read_one {R} {t} {m} {v} {x} made e h =
     lawful_read x.0 h.size h.stands made v e.lawful.lawful (e.lawful.typed ∙ sym h.typed)
     ∙ ap (λ zs. Ok (made zs)) (e.blocks x.0 h.size h.stands h.typed ∙ h.counts)
 
@@ -123,20 +128,20 @@ some_same : (a b : MessageType) → Some a ≡ Some b → a ≡ b
 some_same a b e = cc
 
 -- a draft without a block
-pub begun : (t : MessageType) (n s : ℕ) (k : MessageType) (done : List Bool) (m : List ℕ) → type_of n ≡ Some k → type_of n ≡ Some t → done ≡ replicate 12 false
+pub begun : {t : MessageType} {s : ℕ} {k : MessageType} {done : List Bool} {m : List ℕ} (n : ℕ) → type_of n ≡ Some k → type_of n ≡ Some t → done ≡ replicate 12 false
     → number_at m 6 20 ≡ s → Drafted k done m → Partly t s [] k done m
-begun t n s k done m a b d e f = record { typed = some_same k t (sym a ∙ b); marks = d; second = e; drafted = f; held = tt }
+begun {t} {s} {k} n a b d e f = record { typed = some_same k t (sym a ∙ b); marks = d; second = e; drafted = f; held = tt }
 
 -- a draft with blocks that leave none missing
-pub none_left : (t : MessageType) (s : ℕ) (xs : List Counted) (k : MessageType) (done : List Bool) (m : List ℕ) → Partly t s xs k done m
+pub none_left : {t : MessageType} {s : ℕ} {xs : List Counted} {k : MessageType} {done : List Bool} {m : List ℕ} → Partly t s xs k done m
     → seal_answer t (marked xs) ≡ Ok tt → seal_answer k done ≡ Ok tt
-none_left t s xs k done m h e = ap (λ (k : MessageType). seal_answer k done) h.typed ∙ ap (seal_answer t) h.marks ∙ e
+none_left {t} {s} {xs} {k} {done} h e = ap (λ (k : MessageType). seal_answer k done) h.typed ∙ ap (seal_answer t) h.marks ∙ e
 
 -- the word w of the message v that the draft m is sealed to
-pub word_of : (r : Records) (s : ℕ) (t : MessageType) (done : List Bool) (m v w : List ℕ) → Filled r s t done m → SealedAs t m v → Encodes bcnav3 v w
+pub word_of : {r : Records} {s : ℕ} {t : MessageType} {done : List Bool} {m v w : List ℕ} → Filled r s t done m → SealedAs t m v → Encodes bcnav3 v w
     → ((u : List ℕ) → Encodes bcnav3 v u → u ≡ w) → checked w ≡ in_turn_of None None (examined v)
     → examined v ≡ Ok (record { message_type = t; second = number_at m 6 20 }) → Word r s w
-word_of r s t done m v w f e encodes only is header =
+word_of {r} {s} {t} {done} {m} {v} {w} f e encodes only is header =
     let begins : take 81 w ≡ v = encodes.begins in
     let lawful = subst (λ (n : ℕ). LawfulAs v t n) f.second e.lawful in
     record {

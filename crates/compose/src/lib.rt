@@ -33,7 +33,7 @@ pub mod fault;
 pub mod records;
 
 use fault::ComposeFault;
-use records::{Records, Type10Records, Type30Records};
+use records::{Contents, Records, Type10Records, Type30Records};
 
 /// Whether the fields of a block may hold its counts, or the first that may not.
 fn ask_block<K: Block>(of: &K::Record) -> Result<(), WriterFault>
@@ -45,6 +45,7 @@ fn ask_block<K: Block>(of: &K::Record) -> Result<(), WriterFault>
     }
 }
 
+// The two types are two lists of kinds: a trait over them would name each list once more, and share two lines.
 fn ask_10(records: &Type10Records) -> Result<(), WriterFault>
     ensures { result ≡ ask_all (counts10 records.now) }
 {
@@ -64,22 +65,6 @@ fn ask_30(records: &Type30Records) -> Result<(), WriterFault>
     ask_block::<EarthOrientation>(&records.earth_orientation)?;
     ask_block::<Accuracy>(&records.accuracy)?;
     ask_block::<Health>(&records.health)
-}
-
-/// Whether a message of these records can be written into a buffer of this length, or the first fault.
-fn ask(length: usize, second: u32, records: &Records) -> Result<(), WriterFault>
-    ensures { result ≡ write_answer length second records.now }
-{
-    match records {
-        Records::Type10(records) => {
-            ask_start(length, 10, second)?;
-            ask_10(records)
-        }
-        Records::Type30(records) => {
-            ask_start(length, 30, second)?;
-            ask_30(records)
-        }
-    }
 }
 
 /// Puts a block that was asked for. A block that is refused leaves a draft that cannot be sealed.
@@ -121,45 +106,62 @@ fn draft_30<'a>(buffer: &'a mut [u8], second: u32, records: &Type30Records) -> D
     draft
 }
 
-/// A draft with every block.
-fn draft<'a>(buffer: &'a mut [u8], second: u32, records: &Records) -> Draft<'a>
-    requires { write_answer (length buffer.old) second records.now ≡ Ok tt }
-    ensures fills { Filled records.now second result.message_type result.done (take 81 result.row.buf.now) }
-    ensures same { result.row.buf.ghost_name ≡ buffer.entry.ghost_name }
-{
-    match records {
-        Records::Type10(records) => draft_10(buffer, second, records),
-        Records::Type30(records) => draft_30(buffer, second, records),
+impl Contents {
+    /// Whether the message can be written into a buffer of this length, or the first fault.
+    fn ask(&self, length: usize) -> Result<(), WriterFault>
+        ensures { result ≡ write_answer length self.now.second self.now.records }
+    {
+        match &self.records {
+            Records::Type10(records) => {
+                ask_start(length, 10, self.second)?;
+                ask_10(records)
+            }
+            Records::Type30(records) => {
+                ask_start(length, 30, self.second)?;
+                ask_30(records)
+            }
+        }
+    }
+
+    /// A draft with every block.
+    fn draft<'a>(&self, buffer: &'a mut [u8]) -> Draft<'a>
+        requires { write_answer (length buffer.old) self.now.second self.now.records ≡ Ok tt }
+        ensures fills { Filled self.now.records self.now.second result.message_type result.done (take 81 result.row.buf.now) }
+        ensures same { result.row.buf.ghost_name ≡ buffer.entry.ghost_name }
+    {
+        match &self.records {
+            Records::Type10(records) => draft_10(buffer, self.second, records),
+            Records::Type30(records) => draft_30(buffer, self.second, records),
+        }
+    }
+
+    /// The word of the message, in the buffer.
+    fn write<'a>(&self, buffer: &'a mut [u8]) -> Coded<'a>
+        requires { write_answer (length buffer.old) self.now.second self.now.records ≡ Ok tt }
+        ensures word { Word self.now.records self.now.second result.buf.now }
+        ensures same { result.buf.ghost_name ≡ buffer.entry.ghost_name }
+    {
+        self.draft(buffer).seal().encode()
     }
 }
 
-/// The word of the records, in the buffer.
-fn write<'a>(buffer: &'a mut [u8], second: u32, records: &Records) -> Coded<'a>
-    requires { write_answer (length buffer.old) second records.now ≡ Ok tt }
-    ensures word { Word records.now second result.buf.now }
-    ensures same { result.buf.ghost_name ≡ buffer.entry.ghost_name }
-{
-    draft(buffer, second, records).seal().encode()
-}
-
-/// Fills the buffer of 162 bytes with the word of a message of these records at this second, and the other one with the frame in
-/// which the satellite sends it; or refuses and changes nothing.
+/// Fills the buffer of 162 bytes with the word of a message that says this, and the other one with the frame in which the
+/// satellite sends it; or refuses and changes nothing.
 ///
 /// The message is lawful, reading its blocks gives the records, the word is the only one that begins with it, and `check` accepts
 /// it. A refusal is the first of those of starting, of the blocks in the order of their numbers, and of the frame.
 pub fn compose(
     buffer: &mut [u8],
-    second: u32,
-    records: &Records,
+    contents: &Contents,
     satellite: u8,
     frame: &mut [u8],
 ) -> Result<(), ComposeFault>
-    ensures answer { result ≡ either (write_answer (length buffer.old) second records.now) (frame_answer (length frame.old) satellite) }
-    ensures composed { MatchResult result (λ _. Composed records.now second satellite buffer.new frame.new) (λ _. (buffer.new ≡ buffer.old) × (frame.new ≡ frame.old)) }
+    ensures answer { result ≡ either (write_answer (length buffer.old) contents.now.second contents.now.records) (frame_answer (length frame.old) satellite) }
+    ensures composed { MatchResult result (λ _. Composed contents.now.records contents.now.second satellite buffer.new frame.new) (λ _. (buffer.new ≡ buffer.old) × (frame.new ≡ frame.old)) }
 {
-    ask(buffer.len(), second, records)?;
+    contents.ask(buffer.len())?;
     ask_frame(frame.len(), satellite)?;
-    let coded = write(buffer, second, records);
+    let coded = contents.write(buffer);
     coded.frame(satellite, frame)?;
     Ok(())
 }

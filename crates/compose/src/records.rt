@@ -38,3 +38,10 @@ pub enum Records {
     Type10(Type10Records),
     Type30(Type30Records),
 }
+
+/// What a message says: its second of the week, and a record for every block.
+#[derive(Clone, Copy)]
+pub struct Contents {
+    pub second: u32,
+    pub records: Records,
+}
