@@ -8,7 +8,7 @@ use known_answers::known_answers;
 use message::check;
 use parity::Word;
 use std::alloc::{AllocError, Global};
-use std::env;
+use terminal::{no_word, run};
 
 const HELP: &str = "usage: examples
 
@@ -139,16 +139,9 @@ fn compare_all(rt: &HostRuntime) -> anyhow::Result<()> {
     }
 }
 
-fn run(rt: &HostRuntime) -> anyhow::Result<()> {
-    let mut args = env::args(rt)?;
-    let _program = args.next();
-    match args.next() {
-        None => compare_all(rt),
-        Some(word) if word.as_str() == "--help" => Ok(println!(rt; "{HELP}")?),
-        Some(_) => Err(anyhow!("unknown argument; try --help")),
-    }
-}
-
 fn main(rt: HostRuntime) -> anyhow::Result<()> {
-    run(&rt)
+    run(&rt, HELP, |word| {
+        no_word(word)?;
+        compare_all(&rt)
+    })
 }

@@ -1,48 +1,28 @@
 //! Writes and reads records at the edges of their ranges, of every kind of block, and prints a line for each kind.
 #![tactic(auto)]
 
-use anyhow::anyhow;
+use anyhow::ensure;
 use blocks::fault::BlockFault;
 use blocks::text::Described;
 use blocks::{Block, read, write};
-use layout::{Field, fields};
-use type10::ephemeris1::Ephemeris1;
-use type10::ephemeris2::Ephemeris2;
-use type10::integrity::Integrity;
-use type30::accuracy::Accuracy;
-use type30::bdt_utc::BdtUtc;
-use type30::clock::Clock;
-use type30::earth_orientation::EarthOrientation;
-use type30::group_delay::GroupDelay;
-use type30::health::Health;
-use type30::ionosphere::Ionosphere;
-use type30::week::Week;
+use kinds::{EachKind, for_each_kind};
+use layout::{Field, MessageType, fields};
+use std::io;
 
 /// Whether the record comes back from a message full of ones, and the bits of other blocks stay.
-fn comes_back<K: Block>(of: &K::Record, count: usize) -> bool {
+fn comes_back<K: Block>(of: &K::Record) -> bool
+where
+    K::Record: PartialEq,
+{
     let mut symbols = [63u8; 81];
     symbols[0] = K::PLACE.message_type.number();
-    if write::<K>(of, &mut symbols).is_err() {
-        return false;
-    }
-    let Ok(found) = read::<K>(&symbols) else {
-        return false;
-    };
-    for i in 0..count {
-        if K::count(&found, i) != K::count(of, i) {
-            return false;
-        }
-    }
-    true
+    write::<K>(of, &mut symbols).is_ok() && read::<K>(&symbols) == Ok(*of)
 }
 
 /// Whether writing refuses the record by the field that begins at this bit, and changes nothing.
 fn is_refused<K: Block>(of: &K::Record, bit: usize) -> bool {
     let mut symbols = [21u8; 81];
-    match write::<K>(of, &mut symbols) {
-        Err(BlockFault::Field(found)) => found == bit && symbols == [21u8; 81],
-        _ => false,
-    }
+    write::<K>(of, &mut symbols) == Err(BlockFault::Field(bit)) && symbols == [21u8; 81]
 }
 
 /// The record with every field at its least count.
@@ -55,74 +35,62 @@ fn least<K: Block>(all: &[Field]) -> K::Record {
 }
 
 /// How many of four trials of field number `i`, which begins at `bit`, go as they should: its ends, and one past each.
-fn ends<K: Block>(all: &[Field], i: usize, bit: usize, field: Field) -> u32 {
-    let mut right = 0;
+fn ends<K: Block>(all: &[Field], i: usize, bit: usize, field: Field) -> usize
+where
+    K::Record: PartialEq,
+{
     let mut of = least::<K>(all);
-    if comes_back::<K>(&of, all.len()) {
-        right += 1;
-    }
+    let at_least = comes_back::<K>(&of);
     K::set_count(&mut of, i, field.most);
-    if comes_back::<K>(&of, all.len()) {
-        right += 1;
-    }
+    let at_most = comes_back::<K>(&of);
     K::set_count(&mut of, i, field.most.saturating_add(1));
-    if is_refused::<K>(&of, bit) {
-        right += 1;
-    }
+    let above = is_refused::<K>(&of, bit);
     K::set_count(&mut of, i, field.least.saturating_sub(1));
-    if is_refused::<K>(&of, bit) {
-        right += 1;
-    }
-    right
+    let below = is_refused::<K>(&of, bit);
+    [at_least, at_most, above, below]
+        .iter()
+        .filter(|right| **right)
+        .count()
 }
 
-/// Tries every field of a kind, prints a line, and says whether all went as it should.
-fn try_kind<K: Block + Described>(rt: &HostRuntime) -> anyhow::Result<bool> {
-    let place = K::PLACE;
-    let all = fields(place.part);
-    let mut bit = place.first_bit;
-    let mut right = 0u32;
-    let mut trials = 0u32;
-    for (i, field) in all.iter().enumerate() {
-        right = right.saturating_add(ends::<K>(all, i, bit, *field));
-        trials = trials.saturating_add(4);
-        bit = bit.saturating_add(field.width);
-    }
-    let number = place.number;
-    let name = K::NAME;
-    println!(rt; "block {number} {name}: {right} of {trials} trials right")?;
-    Ok(right == trials)
+/// The trials of the kinds so far.
+#[derive(Drop)]
+struct Trials<'a> {
+    rt: &'a HostRuntime,
+    all_right: bool,
 }
 
-fn try_10(rt: &HostRuntime) -> anyhow::Result<bool> {
-    let a = try_kind::<Ephemeris1>(rt)?;
-    let b = try_kind::<Ephemeris2>(rt)?;
-    let c = try_kind::<Integrity>(rt)?;
-    Ok(a && b && c)
-}
+/// Tries every field of a kind, and prints a line.
+impl EachKind for Trials<'_> {
+    type Fault = io::Error;
 
-fn try_30(rt: &HostRuntime) -> anyhow::Result<bool> {
-    let a = try_kind::<Week>(rt)?;
-    let b = try_kind::<Clock>(rt)?;
-    let c = try_kind::<GroupDelay>(rt)?;
-    let d = try_kind::<Ionosphere>(rt)?;
-    let e = try_kind::<BdtUtc>(rt)?;
-    let f = try_kind::<EarthOrientation>(rt)?;
-    let g = try_kind::<Accuracy>(rt)?;
-    let h = try_kind::<Health>(rt)?;
-    Ok(a && b && c && d && e && f && g && h)
-}
-
-fn run(rt: &HostRuntime) -> anyhow::Result<()> {
-    let ten = try_10(rt)?;
-    let thirty = try_30(rt)?;
-    if ten && thirty {
-        Ok(())
-    } else {
-        Err(anyhow!("some trials did not go as they should"))
+    fn kind<K: Block + Described>(&mut self) -> io::Result<()>
+    where
+        K::Record: PartialEq,
+    {
+        let place = K::PLACE;
+        let all = fields(place.part);
+        let mut bit = place.first_bit;
+        let mut right = 0usize;
+        for (i, field) in all.iter().enumerate() {
+            right = right.saturating_add(ends::<K>(all, i, bit, *field));
+            bit = bit.saturating_add(field.width);
+        }
+        let trials = all.len().saturating_mul(4);
+        self.all_right = self.all_right && right == trials;
+        let number = place.number;
+        let name = K::NAME;
+        println!(self.rt; "block {number} {name}: {right} of {trials} trials right")
     }
 }
 
 fn main(rt: HostRuntime) -> anyhow::Result<()> {
-    run(&rt)
+    let mut trials = Trials {
+        rt: &rt,
+        all_right: true,
+    };
+    for_each_kind(MessageType::Type10, &mut trials)?;
+    for_each_kind(MessageType::Type30, &mut trials)?;
+    ensure!(trials.all_right, "some trials did not go as they should");
+    Ok(())
 }

@@ -1,29 +1,18 @@
 //! Prints the fields of a message as text.
 #![tactic(auto)]
 
-use anyhow::anyhow;
 use blocks::fault::BlockFault;
 use blocks::text::{Described, FieldText};
 use blocks::{Block, read};
+use kinds::{EachKind, for_each_kind};
 use layout::{MessageType, fields};
 use message::answer::Header;
 use message::{check, examine};
 use parity::Message;
-use refusal::{InWords, Refusal};
-use std::io::Read;
+use refusal::Refusal;
+use std::fmt;
 use std::num::nearest_i64_to_f64;
-use std::{env, fmt};
-use type10::ephemeris1::Ephemeris1;
-use type10::ephemeris2::Ephemeris2;
-use type10::integrity::Integrity;
-use type30::accuracy::Accuracy;
-use type30::bdt_utc::BdtUtc;
-use type30::clock::Clock;
-use type30::earth_orientation::EarthOrientation;
-use type30::group_delay::GroupDelay;
-use type30::health::Health;
-use type30::ionosphere::Ionosphere;
-use type30::week::Week;
+use terminal::{no_word, print_refusal, read_at_most, run};
 
 const HELP: &str = "usage: fields < MESSAGE
 
@@ -61,43 +50,39 @@ impl fmt::Display for Value {
     }
 }
 
+/// A message whose blocks are printed.
+#[derive(Drop)]
+struct Blocks<'a> {
+    rt: &'a HostRuntime,
+    message: &'a Message,
+}
+
 /// Prints the fields of one block, or says why it is not read.
-fn show<K: Block + Described>(rt: &HostRuntime, message: &Message) -> anyhow::Result<()> {
-    match read::<K>(message.bytes()) {
-        Ok(found) => {
-            let block = K::NAME;
-            for i in 0..fields(K::PLACE.part).len() {
-                let text = K::field_text(i);
-                let name = text.name;
-                let count = K::count(&found, i);
-                let value = Value { text, count };
-                println!(rt; "{block}.{name} {count}{value}")?;
-            }
-            Ok(())
+impl EachKind for Blocks<'_> {
+    type Fault = anyhow::Error;
+
+    fn kind<K: Block + Described>(&mut self) -> anyhow::Result<()>
+    where
+        K::Record: PartialEq,
+    {
+        let found = match read::<K>(self.message.bytes()) {
+            Ok(found) => found,
+            Err(fault) => return refuse(self.rt, fault.refusal()),
+        };
+        let block = K::NAME;
+        for i in 0..fields(K::PLACE.part).len() {
+            let text = K::field_text(i);
+            let name = text.name;
+            let count = K::count(&found, i);
+            let value = Value { text, count };
+            println!(self.rt; "{block}.{name} {count}{value}")?;
         }
-        Err(fault) => refuse(rt, fault.refusal()),
+        Ok(())
     }
 }
 
-fn show_10(rt: &HostRuntime, message: &Message) -> anyhow::Result<()> {
-    show::<Ephemeris1>(rt, message)?;
-    show::<Ephemeris2>(rt, message)?;
-    show::<Integrity>(rt, message)
-}
-
-fn show_30(rt: &HostRuntime, message: &Message) -> anyhow::Result<()> {
-    show::<Week>(rt, message)?;
-    show::<Clock>(rt, message)?;
-    show::<GroupDelay>(rt, message)?;
-    show::<Ionosphere>(rt, message)?;
-    show::<BdtUtc>(rt, message)?;
-    show::<EarthOrientation>(rt, message)?;
-    show::<Accuracy>(rt, message)?;
-    show::<Health>(rt, message)
-}
-
 /// Messages of type 40 are shown as they are.
-fn show_40(rt: &HostRuntime, message: &Message) -> anyhow::Result<()> {
+fn show_symbols(rt: &HostRuntime, message: &Message) -> anyhow::Result<()> {
     print!(rt; "symbols")?;
     for symbol in message.bytes() {
         print!(rt; " {symbol}")?;
@@ -111,53 +96,36 @@ fn show_message(rt: &HostRuntime, header: Header, message: &Message) -> anyhow::
     println!(rt; "type {number}")?;
     println!(rt; "second {second}")?;
     match header.message_type {
-        MessageType::Type10 => show_10(rt, message),
-        MessageType::Type30 => show_30(rt, message),
-        MessageType::Type40 => show_40(rt, message),
+        MessageType::Type40 => show_symbols(rt, message),
+        of => for_each_kind(of, &mut Blocks { rt, message }),
     }
 }
 
 fn refuse(rt: &HostRuntime, refusal: Refusal) -> anyhow::Result<()> {
-    let words = InWords(refusal);
-    println!(rt; "{refusal}")?;
-    Ok(eprintln!(rt; "fields: {words}")?)
+    Ok(print_refusal(rt, "fields", refusal)?)
 }
 
-/// 81 bytes are a message, and anything else is checked as a word.
-fn answer(rt: &HostRuntime, bytes: &[u8]) -> anyhow::Result<()> {
+/// The message of some bytes, with its header. 81 bytes are a message, and anything else is checked as a word.
+fn message_of(bytes: &[u8]) -> Result<(Header, Message), Refusal> {
     if bytes.len() != 81 {
-        if let Err(fault) = check(bytes) {
-            return refuse(rt, fault.refusal());
-        }
+        check(bytes).map_err(|fault| fault.refusal())?;
     }
-    let symbols = if bytes.len() < 81 {
-        bytes
-    } else {
-        &bytes[0..81]
-    };
-    match Message::new(symbols) {
-        Err(fault) => refuse(rt, BlockFault::Symbols(fault).refusal()),
-        Ok(message) => match examine(&message) {
-            Err(fault) => refuse(rt, fault.refusal()),
-            Ok(header) => show_message(rt, header, &message),
-        },
-    }
+    let symbols = &bytes[..bytes.len().min(81)];
+    let message = Message::new(symbols).map_err(|fault| BlockFault::Symbols(fault).refusal())?;
+    let header = examine(&message).map_err(|fault| fault.refusal())?;
+    Ok((header, message))
 }
 
-fn run(rt: &HostRuntime) -> anyhow::Result<()> {
-    let mut args = env::args(rt)?;
-    let _program = args.next();
-    match args.next() {
-        None => {
-            let mut bytes = Vec::new(rt.alloc());
-            rt.stdin().take(LIMIT).read_to_end(&mut bytes)?;
-            answer(rt, &bytes)
-        }
-        Some(word) if word.as_str() == "--help" => Ok(println!(rt; "{HELP}")?),
-        Some(_) => Err(anyhow!("unknown argument; try --help")),
+fn answer(rt: &HostRuntime, bytes: &[u8]) -> anyhow::Result<()> {
+    match message_of(bytes) {
+        Ok((header, message)) => show_message(rt, header, &message),
+        Err(refusal) => refuse(rt, refusal),
     }
 }
 
 fn main(rt: HostRuntime) -> anyhow::Result<()> {
-    run(&rt)
+    run(&rt, HELP, |word| {
+        no_word(word)?;
+        answer(&rt, &read_at_most(&rt, LIMIT)?)
+    })
 }

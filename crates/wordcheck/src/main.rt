@@ -1,11 +1,8 @@
 //! Reads standard input as one word and prints what the check of it answers.
 #![tactic(auto)]
 
-use anyhow::anyhow;
 use message::check;
-use refusal::InWords;
-use std::env;
-use std::io::Read;
+use terminal::{no_word, print_refusal, read_at_most, run};
 
 const HELP: &str = "usage: wordcheck < WORD
 
@@ -20,30 +17,16 @@ docs/REFUSALS.md lists the numbers, the layers and what a place means.";
 const LIMIT: u64 = 163;
 
 fn answer(rt: &HostRuntime) -> anyhow::Result<()> {
-    let mut bytes = Vec::new(rt.alloc());
-    rt.stdin().take(LIMIT).read_to_end(&mut bytes)?;
+    let bytes = read_at_most(rt, LIMIT)?;
     match check(&bytes) {
-        Ok(header) => println!(rt; "{header}")?,
-        Err(fault) => {
-            let refusal = fault.refusal();
-            let words = InWords(refusal);
-            println!(rt; "{refusal}")?;
-            eprintln!(rt; "wordcheck: {words}")?;
-        }
-    }
-    Ok(())
-}
-
-fn run(rt: &HostRuntime) -> anyhow::Result<()> {
-    let mut args = env::args(rt)?;
-    let _program = args.next();
-    match args.next() {
-        None => answer(rt),
-        Some(word) if word.as_str() == "--help" => Ok(println!(rt; "{HELP}")?),
-        Some(_) => Err(anyhow!("unknown argument; try --help")),
+        Ok(header) => Ok(println!(rt; "{header}")?),
+        Err(fault) => Ok(print_refusal(rt, "wordcheck", fault.refusal())?),
     }
 }
 
 fn main(rt: HostRuntime) -> anyhow::Result<()> {
-    run(&rt)
+    run(&rt, HELP, |word| {
+        no_word(word)?;
+        answer(&rt)
+    })
 }
