@@ -83,6 +83,7 @@ impl MessageType {
 /// The parts of a type, one after another from bit 26.
 ///
 /// They tile the bits 26 to 461, and the fields tile each part that has fields.
+#[tactic(auto, using(crate::proofs::Laws::tiles, crate::proofs::Laws::first_bits, crate::proofs::Laws::ruled), unfolding(crate::specs::Layout::parts_of))]
 pub fn parts(kind: MessageType) -> &'static [Part]
     ensures same { result.now ≡ parts_of kind }
     ensures tiles { Tiles }

@@ -30,10 +30,10 @@ loop-part-preserved g c =
       inside = omega (arith, fit, c.width-at.ensures);
       left = λ keep d.
           let none : None ≡ first_outside (kept keep n p) bs =
-              elim c.if-keeps.branch [
-                | then-keeps+in_default w ↦ kept_found keep n p bs _ (d _ _ c.keeps.ensures) w.if-keeps.true (w.in_default.ensures.same (omega (arith, c.loop-part.invariant.inside, fit)))
-                | else-keeps w ↦ kept_out keep n p bs _ (d _ _ c.keeps.ensures) w.if-keeps.false
-              ] in
+          elim c.if-keeps.branch [
+            | then-keeps+in_default w ↦ kept_found keep n p bs _ (d _ _ c.keeps.ensures) w.if-keeps.true (w.in_default.ensures.same (omega (arith, c.loop-part.invariant.inside, fit)))
+            | else-keeps w ↦ kept_out keep n p bs _ (d _ _ c.keeps.ensures) w.if-keeps.false
+          ] in
           ap (λ (w : ℕ). first_outside (spread keep (n + w) (drop (i + 1) ps)) bs) c.width-at.ensures
           ∙ part_on keep ps i n bs c.loop-part-test.true none
           ∙ c.loop-part.invariant.left keep d;

@@ -7,29 +7,11 @@ use Rattle.layout.specs.Ranges.{Sized}
 use Rattle.layout.proofs.Walk.{no_field, field_step, fields_end}
 use Rattle.layout.proofs.first_outside.Goals as goal
 
-pub holds_outside-requires : goal.holds_outside-requires
-holds_outside-requires c =
-    let fs = c.args.fields.now in let i = c.loop-field.field-index in (
-      All-get_or Sized fs i no_field c.loop-field-test.true c.requires.0,
-      omega (arith, sum_by-drop_more (λ (f : Field). f.width) fs i no_field c.loop-field-test.true),
-    )
-
 pub returns-then-holds_outside : goal.returns-then-holds_outside
 returns-then-holds_outside c =
     field_step c.args.fields.now c.loop-field.field-index c.loop-field.at (bits_of c.args.symbols.now) true
     c.loop-field-test.true c.if-holds_outside.ensures
     ∙ c.loop-field.invariant.1
-
-pub overflow_add-at : goal.overflow_add-at
-overflow_add-at c =
-    record {
-      fits =
-          omega (
-            arith,
-            sum_by-drop_more (λ (f : Field). f.width) c.args.fields.now c.loop-field.field-index no_field
-                c.loop-field-test.true,
-          );
-    }
 
 pub loop-field-preserved : goal.loop-field-preserved
 loop-field-preserved c =
