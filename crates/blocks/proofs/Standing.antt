@@ -1,5 +1,5 @@
 -- A kind of block stands where the layout has its part.
-use Rattle.std.specs.Prelude.{◌≡◌, ℕ, suc, ◌+◌, ◌<◌, false, ◌≢◌, length, slice_index_or, refl}
+use Rattle.std.specs.Prelude.{◌≡◌, ℕ, suc, ◌<◌, false, length, slice_index_or, refl}
 use Rattle.std.proofs.Common.{sym, ap, ◌∙◌, arith}
 use Rattle.layout.specs.Laws.{start}
 use Rattle.layout.specs.Layout.{fields_of, parts_of, width_of}

@@ -42,10 +42,6 @@ checked_carries w t =
       encodes = record { codeword = c; begins = refl };
     }
 
-pub ok_in_turn : (r : Result Header MessageFault) → is_ok (in_turn None None r) ≡ is_ok r
-ok_in_turn (Ok h) = refl
-ok_in_turn (Err e) = refl
-
 -- a code word is answered as the message that it begins with
 pub checked_encoded : (m w : List ℕ) → Encodes bcnav3 m w → checked w ≡ in_turn None None (examined m)
 checked_encoded m w e =

@@ -17,9 +17,6 @@ overflow_add-at g c =
     c.fields-all.result.now c.fields-all.ensures c.loop-i.i c.loop-i.at (omega arith) c.loop-i.invariant.0 in
     record { fits = omega (arith, t.inside) }
 
-pub loop-i-init : goal.loop-i-init
-loop-i-init g c = (omega arith, λ k h. absurd (omega arith))
-
 pub loop-i-preserved : goal.loop-i-preserved
 loop-i-preserved g c =
     let b = g.K.Block in

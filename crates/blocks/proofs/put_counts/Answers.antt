@@ -1,14 +1,10 @@
-use Rattle.std.proofs.Common.{◌-◌, ◌^◌, ◌≤◌, List, length, get_or, take, ℤ, negsuc, ◌≤ℤ◌, sym, ap, ◌∙◌, arith, w64}
+use Rattle.std.proofs.Common.{◌-◌, ◌^◌, get_or, ℤ, negsuc, ◌≤ℤ◌, sym, ap, ◌∙◌, arith, w64}
 use mathlib.Core.Path.{subst⁻¹}
-use Rattle.std.proofs.lemmas.List.{take_all}
 use Rattle.std.proofs.lemmas.Int.{to_z-of_z}
 use Rattle.bits.specs.Bits.{bits_of, pasted, spelled}
 use Rattle.bits.proofs.Pasted.{pasted_none}
 use Rattle.bits.proofs.Symbols.{length_bits}
-use Rattle.layout.specs.Layout.{fields_of}
-use Rattle.layout.specs.declared.Field.{Field}
-use Rattle.blocks.specs.Write.{pack, raw_of, written_over}
-use Rattle.blocks.specs.declared.place.Place.{Place}
+use Rattle.blocks.specs.Write.{pack, raw_of}
 use Rattle.blocks.proofs.Packed.{low_at, pack_step}
 use Rattle.blocks.proofs.Placing.{no_field, turn}
 use Rattle.blocks.proofs.put_counts.Goals as goal
@@ -59,22 +55,3 @@ loop-i-preserved g c =
           (omega (arith, t.inside, c.requires.0, length_bits c.args.symbols.now)) c.loop-i.invariant.0 c.loop-i.invariant.1,
       λ k a. c.put_bits.ensures.small k (c.loop-i.invariant.2 k a),
     )
-
-pub returns : goal.returns
-returns g c =
-    let b = g.K.Block in
-    let fs = c.fields-all.result.now in
-    let q = c.PLACE-place.result in
-    let i = c.loop-i.i in
-    let zs = b.counts c.args.of.now in
-    let bs = bits_of c.args.symbols.now in
-    let long : length zs ≤ i =
-    omega (arith, g.met.K.Block.counted c.args.of.now, g.met.K.Block.stands.fields, ap length (c.fields-all.ensures ∙ ap (λ (x : Place). fields_of x.part) c.PLACE-place.ensures)) in
-    record {
-      bits =
-          c.loop-i.invariant.1
-          ∙ ap (λ (l : List Field). pasted bs q.first_bit (pack l (take i zs))) (take_all i fs (omega arith) ∙ c.fields-all.ensures)
-          ∙ ap (λ (l : List ℤ). written_over q l bs) (take_all i zs long)
-          ∙ ap (λ (x : Place). written_over x zs bs) c.PLACE-place.ensures;
-      small = c.loop-i.invariant.2;
-    }

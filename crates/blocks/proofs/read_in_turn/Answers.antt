@@ -1,35 +1,12 @@
-use Rattle.std.proofs.Common.{◌≡◌, ◌+◌, ◌≤◌, length, Some, None, Ok, sym, ap, ◌∙◌, arith}
+use Rattle.std.proofs.Common.{◌≡◌, ◌+◌, ◌≤◌, length, None, Ok, sym, ap, ◌∙◌, arith}
 use Rattle.bits.specs.Bits.{bits_of}
 use Rattle.layout.specs.Layout.{width_of}
 use Rattle.layout.specs.Ranges.{first_outside}
 use Rattle.blocks.specs.Held.{held_in, placed_of}
 use Rattle.blocks.specs.declared.place.Place.{Place}
 use Rattle.blocks.proofs.Placing.{room}
-use Rattle.blocks.proofs.Reading.{other, ranged}
+use Rattle.blocks.proofs.Reading.{ranged}
 use Rattle.blocks.proofs.read_in_turn.Goals as goal
-
-pub returns-then-not-is_of : goal.returns-then-not-is_of
-returns-then-not-is_of g c =
-    let new = c.in_ok-message.ensures in
-    record {
-      held = tt;
-      answer = other g.K.Block.PLACE c.PLACE-place.result g.K.Block.made c.args.bytes.now c.in_ok-message.message.bytes
-          c.PLACE-place.ensures new.0 new.1 (sym c.if-not-is_of.true ∙ c.is_of.ensures);
-    }
-
-pub returns-in-Some : goal.returns-in-Some
-returns-in-Some g c =
-    let new = c.in_ok-message.ensures in
-    let p = g.K.Block.PLACE in
-    let w = c.in_ok-message.message.bytes in
-    let fits : c.PLACE-place.result.first_bit + width_of c.PLACE-place.result.part ≤ 486 =
-    omega (arith, (room p g.K.Block.size g.met.K.Block.stands).1, ap (λ (q : Place). q.first_bit + width_of q.part) c.PLACE-place.ensures) in
-    record {
-      held = tt;
-      answer = ranged p c.PLACE-place.result g.K.Block.made c.args.bytes.now w (Some c.in-Some.bit)
-          c.PLACE-place.ensures new.0 new.1 (sym c.if-not-is_of.false ∙ c.is_of.ensures)
-          (c.in-Some.ensures.same fits ∙ ap (λ l. first_outside (placed_of c.PLACE-place.result) (bits_of l)) c.bytes.ensures);
-    }
 
 pub returns : goal.returns
 returns g c =

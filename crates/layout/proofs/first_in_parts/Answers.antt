@@ -1,4 +1,4 @@
-use Rattle.std.proofs.Common.{◌≡◌, ℕ, ◌+◌, Bool, None, List, get_or, drop, sum_by, ap, ◌∙◌, arith}
+use Rattle.std.proofs.Common.{◌≡◌, ℕ, ◌+◌, None, List, get_or, drop, ap, ◌∙◌, arith}
 use Rattle.std.proofs.lemmas.List.Sums.{sum_by-drop_more}
 use Rattle.bits.specs.Bits.{bits_of}
 use Rattle.layout.specs.declared.Part.{Part}
@@ -6,7 +6,6 @@ use Rattle.layout.specs.declared.Part.TheVariants.{Reserved}
 use Rattle.layout.specs.Layout.{width_of}
 use Rattle.layout.specs.Placed.{kept, spread}
 use Rattle.layout.specs.Ranges.{first_outside}
-use Rattle.layout.proofs.Laws.{data_end}
 use Rattle.layout.proofs.Walk.{kept_found, kept_out, part_stop, part_on, parts_end}
 use Rattle.layout.proofs.first_in_parts.Goals as goal
 use Rattle.layout.proofs.first_in_parts.Goals.{then-keeps+in_default, else-keeps}

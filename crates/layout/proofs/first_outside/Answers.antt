@@ -1,9 +1,7 @@
 use Rattle.std.proofs.Common.{true, false, ◌∙◌, arith}
-use Rattle.std.proofs.ByRecursion.{All-get_or}
 use Rattle.std.proofs.lemmas.List.Sums.{sum_by-drop_more}
 use Rattle.bits.specs.Bits.{bits_of}
 use Rattle.layout.specs.declared.Field.{Field}
-use Rattle.layout.specs.Ranges.{Sized}
 use Rattle.layout.proofs.Walk.{no_field, field_step, fields_end}
 use Rattle.layout.proofs.first_outside.Goals as goal
 
