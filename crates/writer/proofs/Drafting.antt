@@ -33,7 +33,7 @@ use Rattle.written.proofs.Drafts.{put_into, put_marked, sealed, started}
 -- where a test leads on to a yes, it was passed
 passed : (b : Bool) (r : Result (Unit {0}) WriterFault) (e : WriterFault) → cond b r (Err e) ≡ Ok tt → (b ≡ true) × (r ≡ Ok tt)
 passed true r e t = (refl, t)
-passed false r e t = let z : ◌≡◌ {A = ℕ} 0 1 = cc in absurd (omega arith)
+passed false r e t = absurd cc
 
 -- ---- start
 
@@ -140,7 +140,4 @@ sealed_draft t done ss vs long symbols over d asked =
     sealed t done (take 81 ss) (take 81 vs) (length-take-le 81 ss (omega arith)) (take_symbols vs symbols) message d (all_written t done d.apart asked)
 
 pub sealed_examined : (t : MessageType) (m v : List ℕ) → SealedAs t m v → examined v ≡ Ok (record { message_type = t; second = number_at m 6 20 })
-sealed_examined t m v s =
-    lawful_examined v s.lawful.lawful
-    ∙ ap (λ (x : MessageType). Ok (record { message_type = x; second = number_at v 6 20 })) s.lawful.typed
-    ∙ ap (λ (n : ℕ). Ok (record { message_type = t; second = n })) s.lawful.second
+sealed_examined t m v s = rw (lawful_examined v s.lawful.lawful, s.lawful.typed, s.lawful.second)
