@@ -128,12 +128,11 @@ module _ (p : Place) (size : ℕ) (s : Stands p size) (zs : List ℤ) (m v : Lis
   other_held j h n =
       let fs = fields_of (get_or (parts_of p.message_type) j Opaque) in
       let mine = fields_of p.part in
-      let first : start width_of 26 (parts_of p.message_type) s.index ≡ p.first_bit = s.first in
       let wide = length_pack mine zs (counted ∙ sym s.fields) in
       let beside : Beside p.first_bit (length (pack mine zs)) (start width_of 26 (parts_of p.message_type) j) (widths fs) =
       elim (parts_beside 26 (parts_of p.message_type) j s.index h s.inside n) [
-        | inl l ↦ inr (omega (arith, wide, (fits p.part).0, ap width_of s.part, first))
-        | inr l ↦ inl (omega (arith, (fits (get_or (parts_of p.message_type) j Opaque)).0, first))
+        | inl l ↦ inr (omega (arith, wide, (fits p.part).0, ap width_of s.part))
+        | inr l ↦ inl (omega (arith, (fits (get_or (parts_of p.message_type) j Opaque)).0))
       ] in
       ap (λ l. map (λ q. held q l) (fields_at (parts_of p.message_type) j)) over
       ∙ same_held (bits_of m) (pack mine zs) p.first_bit (inside p size s zs m v counted long over) fs (start width_of 26 (parts_of p.message_type) j) beside

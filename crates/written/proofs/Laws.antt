@@ -1,5 +1,5 @@
 -- A message that is written is lawful, and holds what was put.
-use Rattle.std.proofs.Common.{◌≡◌, ℕ, ◌^◌, ◌<◌, Bool, true, false, List, ◌++◌, map, length, get_or, take, drop, sum_by, sym, refl, ap, ◌∙◌, subst, append_assoc, arith}
+use Rattle.std.proofs.Common.{◌≡◌, ℕ, ◌^◌, ◌<◌, Bool, true, false, List, ◌++◌, length, get_or, take, drop, sum_by, sym, refl, ap, ◌∙◌, subst, append_assoc, arith}
 use mathlib.Core.Path.{subst⁻¹}
 use lib.ListN.{length-map}
 use Rattle.std.proofs.lemmas.List.{drop_at, get_or-map, take_at}
@@ -10,9 +10,9 @@ use Rattle.bits.proofs.Spelled.{number_spelled}
 use Rattle.crc.specs.Crc.{crc_of, crc_of_message}
 use Rattle.crc.proofs.Steps.{steps_lt}
 use Rattle.layout.specs.Laws.{start}
-use Rattle.layout.specs.Layout.{fields_of, number_of, parts_of, width_of}
-use Rattle.layout.specs.Placed.{looks_at, parameters_of, placed, reserved_of, spread}
-use Rattle.layout.specs.Ranges.{InRange, held}
+use Rattle.layout.specs.Layout.{number_of, parts_of, width_of}
+use Rattle.layout.specs.Placed.{looks_at, parameters_of, reserved_of, spread}
+use Rattle.layout.specs.Ranges.{InRange}
 use Rattle.layout.specs.declared.MessageType.{MessageType}
 use Rattle.layout.specs.declared.MessageType.TheVariants.{Type10, Type30, Type40}
 use Rattle.layout.specs.declared.Part.{Part}
@@ -100,22 +100,13 @@ module _ (m : List ℕ) (t : MessageType) (s : ℕ) (xs : List Counted) (w : Wri
   unfolding law
   lawful = record { lawful = law; typed = refl; second = second_is }
 
-  -- the place p is that of the part number i
-  pub holds : (p : Place) (i : ℕ) (d : Counted) → i < length xs → (get_or xs i d).0 ≡ p.part → start width_of 26 (parts_of t) i ≡ p.first_bit
-      → held_in p m ≡ (get_or xs i d).1
-  unfolding held_in
-  holds p i d l e b =
-      let first : start width_of 26 (parts xs) i ≡ p.first_bit = ap (λ (ps : List Part). start width_of 26 ps i) w.full.parts ∙ b in
-      sym (ap (λ n. map (λ q. held q (bits_of m)) (placed n (fields_of (get_or xs i d).0))) first
-      ∙ ap (λ (x : Part). map (λ q. held q (bits_of m)) (placed p.first_bit (fields_of x))) e)
-      ∙ held_part (bits_of m) 26 xs i d held_all l
-
   -- a block of the type
   pub holds_block : (p : Place) (size : ℕ) (d : Counted) → p.message_type ≡ t → (k : Stands p size) → held_in p m ≡ (get_or xs k.index d).1
+  unfolding held_in
   holds_block p size d e k =
       let i : ℕ = k.index in
       let ps : parts xs ≡ parts_of p.message_type = w.full.parts ∙ ap parts_of (sym e) in
       let l : i < length xs = omega (arith, length-map xs (λ x. x.0), ap length ps, k.inside) in
-      holds p i d l
-      (sym (get_or-map (λ x. x.0) xs i d Opaque l) ∙ ap (λ (l : List Part). get_or l i Opaque) ps ∙ k.part)
-      (ap (λ (x : MessageType). start width_of 26 (parts_of x) i) (sym e) ∙ k.first)
+      let first : start width_of 26 (parts xs) i ≡ p.first_bit = ap (λ (l : List Part). start width_of 26 l i) ps ∙ k.first in
+      let part : (get_or xs i d).0 ≡ p.part = sym (get_or-map (λ x. x.0) xs i d Opaque l) ∙ ap (λ (l : List Part). get_or l i Opaque) ps ∙ k.part in
+      rw (← first, ← part) (held_part (bits_of m) 26 xs i d held_all l)

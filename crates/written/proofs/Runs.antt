@@ -1,5 +1,5 @@
 -- The bits that the writes of a message leave, one after another.
-use Rattle.std.proofs.Common.{◌≡◌, ℕ, zero, suc, ◌+◌, ◌-◌, ◌≤◌, Bool, false, cond, ◌≢◌, ◌⊎◌, List, [], ◌∷◌, ◌++◌, length, take, replicate, ℤ, pos, negsuc, sum_by, sym, refl, ap, ◌∙◌, inl, inr, append_assoc, arith, length-append}
+use Rattle.std.proofs.Common.{◌≡◌, ℕ, zero, suc, ◌+◌, ◌-◌, ◌≤◌, cond, ◌≢◌, List, [], ◌∷◌, ◌++◌, length, take, replicate, ℤ, pos, negsuc, sum_by, sym, refl, ap, ◌∙◌, append_assoc, arith, length-append}
 use mathlib.Core.Path.{subst⁻¹}
 use lib.ListN.{replicate-append-replicate}
 use Rattle.std.proofs.lemmas.List.{drop_at, drop-drop, drop-replicate, take_at}
@@ -49,10 +49,6 @@ reserved_bits : (zs : List ℤ) → FitsAll (fields_of Reserved) zs → pack (fi
 unfolding fields_of
 reserved_bits zs f = zero_bits 4 zs f
 
-reserved_or : (p : Part) → (p ≡ Reserved) ⊎ (is_reserved p ≡ false)
-reserved_or Reserved = inl refl
-reserved_or _ = inr refl
-
 -- ---- one part more
 
 -- reserved bits are zeros already
@@ -64,18 +60,10 @@ skipped front n zs f h =
     ∙ ap (λ (l : List ℕ). front ++ (l ++ replicate (n - length l) 0)) (sym (reserved_bits zs f))
 
 step : (front : List ℕ) (b n : ℕ) (p : Part) (zs : List ℤ) → length front ≡ b → FitsAll (fields_of p) zs → length (pack (fields_of p) zs) ≤ n
-    → (p ≡ Reserved) ⊎ (is_reserved p ≡ false)
     → cond (is_reserved p) (front ++ replicate n 0) (over p b zs (front ++ replicate n 0))
     ≡ front ++ (pack (fields_of p) zs ++ replicate (n - length (pack (fields_of p) zs)) 0)
-step front b n p zs e f h (inl r) =
-    subst⁻¹
-    (λ (q : Part).
-    FitsAll (fields_of q) zs → length (pack (fields_of q) zs) ≤ n
-    → cond (is_reserved q) (front ++ replicate n 0) (over q b zs (front ++ replicate n 0))
-    ≡ front ++ (pack (fields_of q) zs ++ replicate (n - length (pack (fields_of q) zs)) 0))
-    r (λ f h. skipped front n zs f (omega (arith, ap length (reserved_bits zs f)))) f h
-step front b n p zs e f h (inr r) =
-    ap (λ (t : Bool). cond t (front ++ replicate n 0) (over p b zs (front ++ replicate n 0))) r ∙ paste_zeros front (pack (fields_of p) zs) b n e
+step front b n Reserved zs e f h = skipped front n zs f (omega (arith, ap length (reserved_bits zs f)))
+step front b n p zs e f h = paste_zeros front (pack (fields_of p) zs) b n e
 
 pub written_from_lem : (xs : List Counted) (front : List ℕ) (b n : ℕ) → length front ≡ b → AllByRecursion Apart (parts xs) → AllByRecursion Fits xs
     → sum_by width_of (parts xs) ≤ n
@@ -89,7 +77,7 @@ written_from_lem (x ∷ xs) front b n e a f h =
     let sum = sum_by-cons width_of p (parts xs) in
     let rest : ℕ = sum_by width_of (parts xs) in
     let done : cond (is_reserved p) (front ++ replicate n 0) (over p b x.1 (front ++ replicate n 0)) ≡ (front ++ mine) ++ replicate (n - length mine) 0 =
-    step front b n p x.1 e f.0 (omega arith) (reserved_or p) ∙ sym (append_assoc front mine (replicate (n - length mine) 0)) in
+    step front b n p x.1 e f.0 (omega arith) ∙ sym (append_assoc front mine (replicate (n - length mine) 0)) in
     let left : n - length mine - rest ≡ n - sum_by width_of (parts (x ∷ xs)) = omega arith in
     ap (written_from (b + width_of p) xs) done
     ∙ written_from_lem xs (front ++ mine) (b + width_of p) (n - length mine) (length-append front mine ∙ omega arith) a.1 f.1 (omega arith)
