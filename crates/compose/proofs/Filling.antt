@@ -1,5 +1,5 @@
 -- A draft while its blocks are put, one after another.
-use Rattle.std.proofs.Common.{◌≡◌, ℕ, Bool, true, false, not, ◌&&◌, eqb, ◌≢◌, List, [], ◌∷◌, get_or, take, set, replicate, ℤ, Some, None, Ok, Err, Option, Result, sym, refl, ap, ◌∙◌, subst, arith}
+use Rattle.std.proofs.Common.{◌≡◌, ℕ, Bool, true, false, not, ◌&&◌, eqb, ◌≢◌, List, [], ◌∷◌, get_or, set, replicate, ℤ, Some, None, Ok, Err, Option, Result, sym, refl, ap, ◌∙◌, subst}
 use mathlib.Core.Path.{subst⁻¹}
 use Rattle.std.proofs.lemmas.Bool.{and_parts, both_ways, eq-eqb, not-true}
 use Rattle.std.specs.List.{AllByRecursion}
@@ -28,11 +28,11 @@ use Rattle.compose.specs.declared.records.Records.{Records}
 -- where both agree, each does
 both : (a b : Result (Unit {0}) WriterFault) → in_turn a b ≡ Ok tt → (a ≡ Ok tt) × (b ≡ Ok tt)
 both (Ok u) b e = (refl, e)
-both (Err f) b e = let z : ◌≡◌ {A = ℕ} 0 1 = cc in absurd (omega arith)
+both (Err f) b e = absurd cc
 
 none_unfit : (o : Option ℕ) → by_field o ≡ Ok tt → o ≡ None
 none_unfit None e = refl
-none_unfit (Some b) e = let z : ◌≡◌ {A = ℕ} 0 1 = cc in absurd (omega arith)
+none_unfit (Some b) e = absurd cc
 
 -- the block may hold its counts
 abbrev Fits : Counted → Type 0
@@ -142,15 +142,8 @@ pub word_of : {r : Records} {s : ℕ} {t : MessageType} {done : List Bool} {m v 
     → ((u : List ℕ) → Encodes bcnav3 v u → u ≡ w) → checked w ≡ in_turn_of None None (examined v)
     → examined v ≡ Ok (record { message_type = t; second = number_at m 6 20 }) → Word r s w
 word_of {r} {s} {t} {done} {m} {v} {w} f e encodes only is header =
-    let begins : take 81 w ≡ v = encodes.begins in
-    let lawful = subst (λ (n : ℕ). LawfulAs v t n) f.second e.lawful in
-    record {
-      message = subst⁻¹ (λ (l : List ℕ). LawfulAs l (kind_of r) s) begins (subst (λ (k : MessageType). LawfulAs v k s) f.typed lawful);
-      reads = subst⁻¹ (Reads r) begins (f.reads v (subst (λ (k : MessageType). SealedAs k m v) f.typed e));
-      encodes = subst⁻¹ (λ (l : List ℕ). Encodes bcnav3 l w) begins encodes;
-      only = λ u x. only u (subst (λ (l : List ℕ). Encodes bcnav3 l u) begins x);
-      accepted =
-          is ∙ ap (in_turn_of None None) header
-          ∙ ap (λ (k : MessageType). Ok (record { message_type = k; second = number_at m 6 20 })) f.typed
-          ∙ ap (λ (n : ℕ). Ok (record { message_type = kind_of r; second = n })) f.second;
-    }
+    let Holds : List ℕ → Type 0 = λ l. LawfulAs l (kind_of r) s × Reads r l × Encodes bcnav3 l w × ((u : List ℕ) → Encodes bcnav3 l u → u ≡ w) in
+    let sealed : SealedAs (kind_of r) m v = subst (λ (k : MessageType). SealedAs k m v) f.typed e in
+    let lawful = subst (λ (n : ℕ). LawfulAs v (kind_of r) n) f.second sealed.lawful in
+    let begun = subst⁻¹ Holds encodes.begins (lawful, f.reads v sealed, encodes, only) in
+    record { message = begun.0; reads = begun.1; encodes = begun.2; only = begun.3; accepted = rw (is, header, f.typed, f.second) }

@@ -45,7 +45,7 @@ fn ask_block<K: Block>(of: &K::Record) -> Result<(), WriterFault>
     }
 }
 
-// The two types are two lists of kinds: a trait over them would name each list once more, and share two lines.
+// `ask_10` and `ask_30`, and `draft_10` and `draft_30`, are lists of kinds: a trait over them adds more lines than it saves.
 fn ask_10(records: &Type10Records) -> Result<(), WriterFault>
     ensures { result ≡ ask_all (counts10 records.now) }
 {

@@ -1,10 +1,9 @@
 -- A draft after each step of the writer.
-use Rattle.std.proofs.Common.{◌≡◌, ℕ, zero, suc, ◌+◌, ◌<◌, ◌≤◌, Bool, true, false, cond, ◌&&◌, ◌||◌, eqb, ltb, leb, ◌≢◌, ◌⊎◌, List, length, get_or, take, set, replicate, ℤ, is_ok, Some, None, Ok, Err, Option, Result, sym, refl, ap, ◌∙◌, subst, inl, inr, arith}
+use Rattle.std.proofs.Common.{◌≡◌, ℕ, zero, suc, ◌+◌, ◌<◌, ◌≤◌, Bool, true, false, cond, ◌&&◌, ◌||◌, eqb, ltb, leb, ◌≢◌, ◌⊎◌, List, length, get_or, take, set, replicate, ℤ, Some, None, Ok, Err, Option, Result, sym, refl, ap, ◌∙◌, subst, inl, inr, arith}
 use Rattle.std.proofs.lemmas.List.{length-take-le}
-use Rattle.std.proofs.lemmas.Bool.{and_parts, both_ways, cases_eq, eqb-true, leb-true, ltb-true, or_cases, or_left, or_right}
+use Rattle.std.proofs.lemmas.Bool.{and_parts, cases_eq, eqb-true, leb-true, ltb-true, or_cases, or_left, or_right}
 use Rattle.bits.specs.Bits.{bits_of, pasted, spelled}
 use Rattle.bits.proofs.Pasted.{front_pasted}
-use Rattle.bits.proofs.Spelled.{length_spelled}
 use Rattle.bits.proofs.Symbols.{bits_take, length_bits}
 use Rattle.blocks.specs.Held.{placed_of}
 use Rattle.blocks.specs.Numbered.{Numbered, block_of}
@@ -33,7 +32,7 @@ use Rattle.written.proofs.Drafts.{put_into, put_marked, sealed, started}
 -- where a test leads on to a yes, it was passed
 passed : (b : Bool) (r : Result (Unit {0}) WriterFault) (e : WriterFault) → cond b r (Err e) ≡ Ok tt → (b ≡ true) × (r ≡ Ok tt)
 passed true r e t = (refl, t)
-passed false r e t = let z : ◌≡◌ {A = ℕ} 0 1 = cc in absurd (omega arith)
+passed false r e t = absurd cc
 
 -- ---- start
 
@@ -61,9 +60,9 @@ drafted k n t s ss h e bits =
 
 -- ---- put
 
-pub fit : (o : Option ℕ) (r : Result (Unit {0}) WriterFault) → r ≡ by_field o → is_ok r ≡ true → o ≡ None
-fit None r e t = refl
-fit (Some b) r e t = absurd (both_ways true (sym t ∙ ap is_ok e) refl)
+pub fit : (o : Option ℕ) → Ok tt ≡ by_field o → o ≡ None
+fit None e = refl
+fit (Some b) e = absurd cc
 
 -- the symbols ts are ss with the counts zs written over the block at p, which is one of the type t
 module _ (p : Place) (size : ℕ) (s : Stands p size) (zs : List ℤ) (ss ts : List ℕ) (t : MessageType) (done : List Bool) (counted : length zs ≡ size)
@@ -135,12 +134,9 @@ sealed_draft t done ss vs long symbols over d asked =
     let crc : List ℕ = spelled 24 (crc_of_message (take 81 ss)) in
     let message : bits_of (take 81 vs) ≡ pasted (bits_of (take 81 ss)) 462 crc =
     bits_take 81 vs ∙ ap (take 486) over
-    ∙ front_pasted (bits_of ss) crc 462 486 (omega (arith, length_bits ss)) (omega (arith, length_spelled 24 (crc_of_message (take 81 ss))))
+    ∙ front_pasted (bits_of ss) crc 462 486 (omega (arith, length_bits ss)) (omega arith)
     ∙ ap (λ l. pasted l 462 crc) (sym (bits_take 81 ss)) in
     sealed t done (take 81 ss) (take 81 vs) (length-take-le 81 ss (omega arith)) (take_symbols vs symbols) message d (all_written t done d.apart asked)
 
 pub sealed_examined : (t : MessageType) (m v : List ℕ) → SealedAs t m v → examined v ≡ Ok (record { message_type = t; second = number_at m 6 20 })
-sealed_examined t m v s =
-    lawful_examined v s.lawful.lawful
-    ∙ ap (λ (x : MessageType). Ok (record { message_type = x; second = number_at v 6 20 })) s.lawful.typed
-    ∙ ap (λ (n : ℕ). Ok (record { message_type = t; second = n })) s.lawful.second
+sealed_examined t m v s = rw (lawful_examined v s.lawful.lawful, s.lawful.typed, s.lawful.second)

@@ -17,7 +17,7 @@ use parity::Message;
 
 /// The symbols of a lent buffer.
 ///
-/// They are a slice and no array: to make it one lends the buffer anew, and its owner could not tell what it holds in the end.
+/// They are a slice and no array: the library lends an array anew, and no clause could say that it is the lent buffer.
 #[derive(Drop)]
 pub(crate) struct Row<'a> {
     pub(crate) buf: &'a mut [u8],

@@ -1,6 +1,5 @@
 -- A draft after each step: started, a block put, sealed.
-use Rattle.std.proofs.Common.{◌≡◌, ℕ, ◌+◌, ◌^◌, ◌<◌, ◌≤◌, Bool, true, false, not, ◌||◌, eqb, ◌≢◌, ◌⊎◌, List, map, length, get_or, take, set, replicate, ℤ, is_some, Some, None, Option, sym, refl, ap, ◌∙◌, subst, inl, inr, arith}
-use mathlib.Core.Path.{subst⁻¹}
+use Rattle.std.proofs.Common.{◌≡◌, ℕ, ◌+◌, ◌<◌, ◌≤◌, Bool, true, false, not, ◌||◌, eqb, ◌≢◌, ◌⊎◌, List, map, length, get_or, take, set, replicate, ℤ, is_some, Some, None, Option, sym, refl, ap, ◌∙◌, subst, inl, inr, arith}
 use Rattle.std.proofs.lemmas.List.{get_or-set_other}
 use Rattle.std.proofs.lemmas.List.Sums.{sum_by_more, sum_by-take-le}
 use Rattle.std.proofs.lemmas.Bool.{both_ways, cases_eq, eq-eqb, eqb-true, not-true, or_cases, or_left, cases_Bool}
@@ -8,7 +7,7 @@ use Rattle.std.specs.Int.Digits.{number_from_digits as number}
 use Rattle.std.specs.List.{AllByRecursion}
 use Rattle.bits.specs.Bits.{bits_of, part, pasted, spelled}
 use Rattle.bits.proofs.Pasted.{before_pasted, part_before, part_pasted}
-use Rattle.bits.proofs.Spelled.{length_spelled, number_spelled}
+use Rattle.bits.proofs.Spelled.{number_spelled}
 use Rattle.bits.proofs.Symbols.{length_bits}
 use Rattle.blocks.specs.Held.{held_in, placed_of}
 use Rattle.blocks.specs.Numbered.{Numbered, block_of}
@@ -37,6 +36,7 @@ use Rattle.parity.specs.Code.{SymbolList}
 use Rattle.written.specs.Drafted.{Drafted, PutInto, SealedAs, is_written, written_in_range}
 use Rattle.written.specs.Written.{start_bits}
 use Rattle.written.proofs.Apart.{Beside, parts_beside, same_held, spread_all}
+use Rattle.written.proofs.Laws.{type_small}
 
 -- the fields of part number j, each with its first bit
 abbrev fields_at : List Part → ℕ → List Placed
@@ -55,20 +55,11 @@ record At (q : Place) (t : MessageType) (i : ℕ) : Type 0 where
 
 placed_at : (q : Place) (size : ℕ) (k : Stands q size) (t : MessageType) → q.message_type ≡ t → At q t k.index
 placed_at q size k t e =
-    let same : get_or (parts_of t) k.index Opaque ≡ q.part = ap (λ (t : MessageType). get_or (parts_of t) k.index Opaque) (sym e) ∙ k.part in
-    let first : start width_of 26 (parts_of t) k.index ≡ q.first_bit =
-    ap (λ (t : MessageType). start width_of 26 (parts_of t) k.index) (sym e) ∙ k.first in
-    record {
-      inside = omega (arith, k.inside, ap (λ (t : MessageType). length (parts_of t)) e);
-      part = same;
-      fields =
-          ap (λ (b : ℕ). placed b (fields_of (get_or (parts_of t) k.index Opaque))) first
-          ∙ ap (λ (y : Part). placed q.first_bit (fields_of y)) same;
-    }
+    subst (λ (t : MessageType). At q t k.index) e (record { inside = k.inside; part = k.part; fields = rw (k.first, k.part) })
 
 none_from : (o : Option ℕ) → not (is_some o) ≡ true → o ≡ None
 none_from None e = refl
-none_from (Some b) e = absurd (both_ways false refl e)
+none_from (Some b) e = absurd cc
 
 -- the test of the ranges and what it says
 in_range_all : (t : MessageType) (done : List Bool) (m : List ℕ) → written_in_range t done m ≡ true → AllByRecursion (InRange (bits_of m)) (spread (is_written done) 26 (parts_of t))
@@ -80,11 +71,6 @@ all_in_range : (t : MessageType) (done : List Bool) (m : List ℕ) → AllByRecu
 all_in_range t done m a = ap (λ (o : Option ℕ). not (is_some o)) (all_none (spread (is_written done) 26 (parts_of t)) (bits_of m) a)
 
 -- ---- a draft is started
-
-type_small : (t : MessageType) → number_of t < 2 ^ 6
-type_small Type10 = omega arith
-type_small Type30 = omega arith
-type_small Type40 = omega arith
 
 none_set : (t : MessageType) (s : ℕ) → t ≢ Type40
     → not (is_some (first_outside (spread (is_written (replicate 12 false)) 26 (parts_of t)) (take 486 (start_bits (number_of t) s)))) ≡ true
@@ -142,24 +128,18 @@ module _ (p : Place) (size : ℕ) (s : Stands p size) (zs : List ℤ) (m v : Lis
   other_held j h n =
       let fs = fields_of (get_or (parts_of p.message_type) j Opaque) in
       let mine = fields_of p.part in
-      let first : start width_of 26 (parts_of p.message_type) s.index ≡ p.first_bit = s.first in
       let wide = length_pack mine zs (counted ∙ sym s.fields) in
       let beside : Beside p.first_bit (length (pack mine zs)) (start width_of 26 (parts_of p.message_type) j) (widths fs) =
       elim (parts_beside 26 (parts_of p.message_type) j s.index h s.inside n) [
-        | inl l ↦ inr (omega (arith, wide, (fits p.part).0, ap width_of s.part, first))
-        | inr l ↦ inl (omega (arith, (fits (get_or (parts_of p.message_type) j Opaque)).0, first))
+        | inl l ↦ inr (omega (arith, wide, (fits p.part).0, ap width_of s.part))
+        | inr l ↦ inl (omega (arith, (fits (get_or (parts_of p.message_type) j Opaque)).0))
       ] in
       ap (λ l. map (λ q. held q l) (fields_at (parts_of p.message_type) j)) over
       ∙ same_held (bits_of m) (pack mine zs) p.first_bit (inside p size s zs m v counted long over) fs (start width_of 26 (parts_of p.message_type) j) beside
 
   -- the fields of this block are in range
   mine : (j : ℕ) → j ≡ s.index → AllByRecursion (InRange (bits_of v)) (fields_at (parts_of p.message_type) j)
-  mine j e =
-      let ps = parts_of p.message_type in
-      subst⁻¹ (λ (i : ℕ). AllByRecursion (InRange (bits_of v)) (fields_at ps i)) e
-      (subst⁻¹ (λ (x : Part). AllByRecursion (InRange (bits_of v)) (placed (start width_of 26 ps s.index) (fields_of x))) s.part
-      (subst⁻¹ (λ (b : ℕ). AllByRecursion (InRange (bits_of v)) (placed b (fields_of p.part))) s.first
-      (none_all (placed_of p) (bits_of v) (none_outside p size s zs m v counted long over unfit))))
+  mine j e = rw (e, s.first, s.part) (none_all (placed_of p) (bits_of v) (none_outside p size s zs m v counted long over unfit))
 
   -- so are those of a part that was in range before
   ranged : (j : ℕ) → j < length (parts_of p.message_type) → AllByRecursion (InRange (bits_of m)) (fields_at (parts_of p.message_type) j)
@@ -253,7 +233,6 @@ module _ (t : MessageType) (done : List Bool) (m v : List ℕ) (long : length m 
   crc_is =
       let c : ℕ = crc_of_message m in
       ap (λ l. number 2 (part l 462 24)) over
-      ∙ ap (λ n. number 2 (part (pasted (bits_of m) 462 (spelled 24 c)) 462 n)) (sym (length_spelled 24 c))
       ∙ ap (number 2) (part_pasted (bits_of m) (spelled 24 c) 462 room_for)
       ∙ number_spelled 24 c (steps_lt 0 (take 462 (bits_of m)) (omega arith))
       ∙ sym (ap (λ l. crc_of (take 462 l)) over ∙ ap crc_of (before_pasted (bits_of m) (spelled 24 c) 462 room_for))

@@ -1,5 +1,5 @@
 -- The bits that the writes of a message leave, one after another.
-use Rattle.std.proofs.Common.{◌≡◌, ℕ, zero, suc, ◌+◌, ◌-◌, ◌≤◌, Bool, false, cond, ◌≢◌, ◌⊎◌, List, [], ◌∷◌, ◌++◌, length, take, drop, replicate, ℤ, pos, negsuc, sum_by, sym, refl, ap, ◌∙◌, inl, inr, append_assoc, arith, length-append}
+use Rattle.std.proofs.Common.{◌≡◌, ℕ, zero, suc, ◌+◌, ◌-◌, ◌≤◌, cond, ◌≢◌, List, [], ◌∷◌, ◌++◌, length, take, replicate, ℤ, pos, negsuc, sum_by, sym, refl, ap, ◌∙◌, append_assoc, arith, length-append}
 use mathlib.Core.Path.{subst⁻¹}
 use lib.ListN.{replicate-append-replicate}
 use Rattle.std.proofs.lemmas.List.{drop_at, drop-drop, drop-replicate, take_at}
@@ -7,7 +7,6 @@ use Rattle.std.proofs.lemmas.Int.{ints}
 use Rattle.std.proofs.lemmas.List.Sums.{sum_by-cons}
 use Rattle.std.specs.List.{AllByRecursion}
 use Rattle.bits.specs.Bits.{bits_of, pasted, spelled}
-use Rattle.bits.proofs.Spelled.{length_spelled}
 use Rattle.bits.proofs.Symbols.{bits_take}
 use Rattle.crc.specs.Crc.{crc_of}
 use Rattle.layout.specs.Layout.{fields_of, number_of, reserved, width_of}
@@ -16,8 +15,7 @@ use Rattle.layout.specs.Ranges.{Within}
 use Rattle.layout.specs.declared.MessageType.{MessageType}
 use Rattle.layout.specs.declared.MessageType.TheVariants.{Type40}
 use Rattle.layout.specs.declared.Part.{Part}
-use Rattle.layout.specs.declared.Part.TheVariants.{Reserved, Ephemeris1, Ephemeris2, Integrity, Week, Clock, GroupDelay}
-use Rattle.layout.specs.declared.Part.TheVariants.{Ionosphere, BdtUtc, EarthOrientation, Accuracy, Health, Opaque}
+use Rattle.layout.specs.declared.Part.TheVariants.{Reserved}
 use Rattle.layout.proofs.Laws.{data_end}
 use Rattle.blocks.specs.Write.{pack}
 use Rattle.blocks.proofs.Packed.{length_pack}
@@ -31,10 +29,8 @@ use Rattle.written.proofs.Laws.{message_long}
 pub paste_zeros : (front s : List ℕ) (b n : ℕ) → length front ≡ b
     → pasted (front ++ replicate n 0) b s ≡ front ++ (s ++ replicate (n - length s) 0)
 paste_zeros front s b n e =
-    let bs : List ℕ = front ++ replicate n 0 in
-    let rest : drop (b + length s) bs ≡ replicate (n - length s) 0 =
-    sym (drop-drop (length s) b bs) ∙ ap (drop (length s)) (drop_at front (replicate n 0) b e) ∙ drop-replicate (length s) n 0 in
-    ap (λ l. l ++ (s ++ drop (b + length s) bs)) (take_at front (replicate n 0) b e) ∙ ap (λ l. front ++ (s ++ l)) rest
+    let zeros : List ℕ = replicate n 0 in
+    rw (take_at front zeros b e, ← drop-drop (length s) b (front ++ zeros), drop_at front zeros b e, drop-replicate)
 
 -- ---- reserved bits
 
@@ -53,21 +49,6 @@ reserved_bits : (zs : List ℤ) → FitsAll (fields_of Reserved) zs → pack (fi
 unfolding fields_of
 reserved_bits zs f = zero_bits 4 zs f
 
-reserved_or : (p : Part) → (p ≡ Reserved) ⊎ (is_reserved p ≡ false)
-reserved_or Reserved = inl refl
-reserved_or Ephemeris1 = inr refl
-reserved_or Ephemeris2 = inr refl
-reserved_or Integrity = inr refl
-reserved_or Week = inr refl
-reserved_or Clock = inr refl
-reserved_or GroupDelay = inr refl
-reserved_or Ionosphere = inr refl
-reserved_or BdtUtc = inr refl
-reserved_or EarthOrientation = inr refl
-reserved_or Accuracy = inr refl
-reserved_or Health = inr refl
-reserved_or Opaque = inr refl
-
 -- ---- one part more
 
 -- reserved bits are zeros already
@@ -79,18 +60,10 @@ skipped front n zs f h =
     ∙ ap (λ (l : List ℕ). front ++ (l ++ replicate (n - length l) 0)) (sym (reserved_bits zs f))
 
 step : (front : List ℕ) (b n : ℕ) (p : Part) (zs : List ℤ) → length front ≡ b → FitsAll (fields_of p) zs → length (pack (fields_of p) zs) ≤ n
-    → (p ≡ Reserved) ⊎ (is_reserved p ≡ false)
     → cond (is_reserved p) (front ++ replicate n 0) (over p b zs (front ++ replicate n 0))
     ≡ front ++ (pack (fields_of p) zs ++ replicate (n - length (pack (fields_of p) zs)) 0)
-step front b n p zs e f h (inl r) =
-    subst⁻¹
-    (λ (q : Part).
-    FitsAll (fields_of q) zs → length (pack (fields_of q) zs) ≤ n
-    → cond (is_reserved q) (front ++ replicate n 0) (over q b zs (front ++ replicate n 0))
-    ≡ front ++ (pack (fields_of q) zs ++ replicate (n - length (pack (fields_of q) zs)) 0))
-    r (λ f h. skipped front n zs f (omega (arith, ap length (reserved_bits zs f)))) f h
-step front b n p zs e f h (inr r) =
-    ap (λ (t : Bool). cond t (front ++ replicate n 0) (over p b zs (front ++ replicate n 0))) r ∙ paste_zeros front (pack (fields_of p) zs) b n e
+step front b n Reserved zs e f h = skipped front n zs f (omega (arith, ap length (reserved_bits zs f)))
+step front b n p zs e f h = paste_zeros front (pack (fields_of p) zs) b n e
 
 pub written_from_lem : (xs : List Counted) (front : List ℕ) (b n : ℕ) → length front ≡ b → AllByRecursion Apart (parts xs) → AllByRecursion Fits xs
     → sum_by width_of (parts xs) ≤ n
@@ -104,7 +77,7 @@ written_from_lem (x ∷ xs) front b n e a f h =
     let sum = sum_by-cons width_of p (parts xs) in
     let rest : ℕ = sum_by width_of (parts xs) in
     let done : cond (is_reserved p) (front ++ replicate n 0) (over p b x.1 (front ++ replicate n 0)) ≡ (front ++ mine) ++ replicate (n - length mine) 0 =
-    step front b n p x.1 e f.0 (omega arith) (reserved_or p) ∙ sym (append_assoc front mine (replicate (n - length mine) 0)) in
+    step front b n p x.1 e f.0 (omega arith) ∙ sym (append_assoc front mine (replicate (n - length mine) 0)) in
     let left : n - length mine - rest ≡ n - sum_by width_of (parts (x ∷ xs)) = omega arith in
     ap (written_from (b + width_of p) xs) done
     ∙ written_from_lem xs (front ++ mine) (b + width_of p) (n - length mine) (length-append front mine ∙ omega arith) a.1 f.1 (omega arith)
@@ -122,11 +95,9 @@ module _ (t : MessageType) (s : ℕ) (xs : List Counted) (n : t ≢ Type40) (f :
   unfolding start_bits message_bits
   run_bits =
       let head : List ℕ = spelled 6 (number_of t) ++ spelled 20 s in
-      let long : length head ≡ 26 =
-      length-append (spelled 6 (number_of t)) (spelled 20 s) ∙ omega (arith, length_spelled 6 (number_of t), length_spelled 20 s) in
       let sum : sum_by width_of (parts xs) ≡ 436 = omega (arith, data_end t, ap (sum_by width_of) f.parts) in
       ap (written_from 26 xs) (sym (append_assoc (spelled 6 (number_of t)) (spelled 20 s) (replicate 946 0)))
-      ∙ written_from_lem xs head 26 946 long apart f.fits (omega arith)
+      ∙ written_from_lem xs head 26 946 refl apart f.fits (omega arith)
       ∙ ap (λ k. head ++ (parts_bits xs ++ replicate (946 - k) 0)) sum ∙ simp append_assoc
 
   pub closed_bits_lem : closed (written_from 26 xs (start_bits (number_of t) s)) ≡ closed_bits t s xs ++ replicate 486 0
@@ -137,7 +108,6 @@ module _ (t : MessageType) (s : ℕ) (xs : List Counted) (n : t ≢ Type40) (f :
       ap closed run_bits
       ∙ ap (λ l. pasted (body ++ replicate 510 0) 462 (spelled 24 (crc_of l))) (take_at body (replicate 510 0) 462 long)
       ∙ paste_zeros body end 462 510 long
-      ∙ ap (λ k. body ++ (end ++ replicate (510 - k) 0)) (length_spelled 24 (crc_of body))
       ∙ sym (append_assoc body end (replicate 486 0))
 
   -- the first 486 bits are the message
@@ -146,7 +116,7 @@ module _ (t : MessageType) (s : ℕ) (xs : List Counted) (n : t ≢ Type40) (f :
       let body : List ℕ = message_bits t s xs in
       let end : List ℕ = spelled 24 (crc_of body) in
       let long : length (body ++ end) ≡ 486 =
-      length-append body end ∙ omega (arith, message_long t s xs (taken_apart t n) f, length_spelled 24 (crc_of body)) in
+      length-append body end ∙ omega (arith, message_long t s xs (taken_apart t n) f) in
       ap (take 486) closed_bits_lem ∙ take_at (body ++ end) (replicate 486 0) 486 long
 
 -- the message in the first 81 symbols of such bits

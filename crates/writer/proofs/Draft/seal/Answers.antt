@@ -1,21 +1,20 @@
 use Rattle.std.proofs.Common.{take}
-use Rattle.written.specs.Drafted.{Drafted, SealedAs}
 use Rattle.writer.proofs.Drafting.{sealed_draft, sealed_examined}
 use Rattle.writer.proofs.Sealing.{sealed_lawful}
 use Rattle.writer.proofs.Draft.seal.Goals as goal
 
-pub returns : goal.returns
-returns c =
+pub returns-clause-lawful : goal.returns-clause-lawful
+returns-clause-lawful c s xs n h f e =
     let d = c.args.self in
-    let ss = d.row.buf.now in
     let row = c.put_crc.new.self in
-    let bits = c.put_crc.ensures.bits in
-    let seals : Drafted d.message_type d.done (take 81 ss) → SealedAs d.message_type (take 81 ss) (take 81 row.buf.now) =
-    λ k. sealed_draft d.message_type d.done ss row.buf.now d.row.symbols.long row.symbols bits k c.requires in
-    record {
-      holds = bits;
-      lawful = λ s xs n h f e. sealed_lawful ss row.buf.now d.message_type s xs row.symbols bits n h f e;
-      seals = seals;
-      examined = λ k. sealed_examined d.message_type (take 81 ss) (take 81 row.buf.now) (seals k);
-      same = c.put_crc.ensures.same;
-    }
+    sealed_lawful d.row.buf.now row.buf.now d.message_type s xs row.symbols c.put_crc.ensures.bits n h f e
+
+pub returns-clause-seals : goal.returns-clause-seals
+returns-clause-seals c k =
+    let d = c.args.self in
+    let row = c.put_crc.new.self in
+    sealed_draft d.message_type d.done d.row.buf.now row.buf.now d.row.symbols.long row.symbols c.put_crc.ensures.bits k c.requires
+
+pub returns-clause-examined : goal.returns-clause-examined
+returns-clause-examined c k =
+    sealed_examined c.args.self.message_type (take 81 c.args.self.row.buf.now) (take 81 c.put_crc.new.self.buf.now) (returns-clause-seals c k)

@@ -1,4 +1,3 @@
-use Rattle.std.proofs.Common.{◌≡◌, ℕ, arith}
 use Rattle.parity.proofs.Codewords.{of_symbols, take_symbols}
 use Rattle.writer.proofs.symbols.Row.put_checks.Goals as goal
 
@@ -7,4 +6,4 @@ unreachable-requires c =
     let ss = c.args.self.now.buf.now in
     let none = of_symbols 81 _ (take_symbols ss c.args.self.now.symbols) in
     let some = c.in_default.ensures in
-    let z : ◌≡◌ {A = ℕ} 0 1 = cc in omega arith
+    cc

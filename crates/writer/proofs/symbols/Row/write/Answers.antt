@@ -1,4 +1,4 @@
-use Rattle.std.proofs.Common.{◌≡◌, ℕ, List, ℤ, Some, None, Ok, Err, Option, Result, refl, ap, ◌∙◌}
+use Rattle.std.proofs.Common.{◌≡◌, ℕ, List, ℤ, Some, None, Ok, Err, Option, Result, length, refl, ap, ◌∙◌}
 use Rattle.std.specs.Result.{IsErrAnd}
 use Rattle.blocks.specs.Held.{placed_of}
 use Rattle.blocks.specs.Read.{by_range}
@@ -28,9 +28,13 @@ err_is (Err e) f h = ap Err h
 pub returns-clause-answer : goal.returns-clause-answer
 returns-clause-answer g c =
     let b = g.K.Block in
-    answer b.PLACE (b.counts c.args.of.now) _ _ c.args.self.now.symbols.long c.in_ok-write.ensures.answer
+    let row = c.args.self.now in
+    answer b.PLACE (b.counts c.args.of.now) (length row.buf.now) (Ok tt) row.symbols.long c.in_ok-write.ensures.answer
 
 pub returns-in_err-write-clause-answer : goal.returns-in_err-write-clause-answer
 returns-in_err-write-clause-answer g c =
     let b = g.K.Block in
-    err_is _ _ c.from_residual.ensures.1 ∙ answer b.PLACE (b.counts c.args.of.now) _ _ c.args.self.now.symbols.long c.in_err-write.ensures.answer
+    let row = c.args.self.now in
+    let fault = c.in_err-write.field-0.0 in
+    err_is c.from_residual.result fault c.from_residual.ensures.1
+    ∙ answer b.PLACE (b.counts c.args.of.now) (length row.buf.now) (Err fault) row.symbols.long c.in_err-write.ensures.answer
