@@ -64,22 +64,17 @@ fn byte_of(digit: u8) -> u8 {
 }
 
 fn bytes_of(heap: Global, text: &str) -> Result<Vec<u8>, AllocError> {
-    let mut bytes = Vec::new(heap);
-    if text != "=" {
-        for digit in text.bytes() {
-            bytes.push(byte_of(digit))?;
-        }
+    if text == "=" {
+        return Ok(Vec::new(heap));
     }
-    Ok(bytes)
+    text.bytes().map(byte_of).collect(heap)
 }
 
 /// Whether the sums of the bytes are 0 and their first 81 symbols encode to them.
 fn is_code_word(bytes: &[u8]) -> bool {
-    match Word::new(bytes) {
-        Ok(word) => word.first_nonzero_sum().is_none()
-            && word.message().encode().bytes() == word.bytes(),
-        Err(_) => false,
-    }
+    Word::new(bytes).is_ok_and(|word| {
+        word.first_nonzero_sum().is_none() && word.message().encode().bytes() == word.bytes()
+    })
 }
 
 fn answer(heap: Global, bytes: &[u8]) -> Result<String, AllocError> {
@@ -104,15 +99,12 @@ fn compare(rt: &HostRuntime, case: &str) -> anyhow::Result<bool> {
         return Err(anyhow!("a line of the table has fewer than four parts"));
     };
     let bytes = bytes_of(rt.alloc(), text)?;
-    let found_code = if is_code_word(&bytes) { "code" } else { "none" };
+    let is_code = is_code_word(&bytes);
     let found = answer(rt.alloc(), &bytes)?;
-    let as_expected = found_code == code && (expected == "-" || found.as_str() == expected);
+    let as_expected = is_code == (code == "code")
+        && (expected == "-" || found.as_str() == expected);
     let mark = if as_expected { "ok" } else { "WRONG" };
-    let kind = if found_code == "code" {
-        "code word"
-    } else {
-        "no code word"
-    };
+    let kind = if is_code { "code word" } else { "no code word" };
     if expected == "-" {
         println!(rt; "{mark} {name}: {kind}")?;
     } else {

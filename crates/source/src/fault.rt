@@ -1,55 +1,34 @@
 //! Why no frame is written.
 use frames::FrameFault;
-use refusal::InWords;
-use std::fmt;
+use refusal::{InWords, Refusal};
 use text::fault::TextFault;
+use thiserror::Error;
 use writer::fault::WriterFault;
 
 /// Why a text gives no frame.
-#[derive(Clone, Copy)]
+#[derive(Clone, Copy, Debug, Error)]
 pub enum SourceFault {
     /// The text is not one of a message.
-    Text(TextFault),
+    #[error(transparent)]
+    Text(#[from] TextFault),
     /// The number under this name is negative, or too large for what it counts.
+    #[error("the number under {0} is out of range")]
     OutOfRange(&'static str),
     /// The message is not lawful.
-    Writer(WriterFault),
+    #[error("{}", InWords(.0.refusal()))]
+    Writer(#[from] WriterFault),
     /// The frame is refused.
-    Frame(FrameFault),
+    #[error("{}", InWords(.0.refusal()))]
+    Frame(#[from] FrameFault),
 }
 
-impl From<TextFault> for SourceFault {
-    fn from(fault: TextFault) -> SourceFault {
-        SourceFault::Text(fault)
-    }
-}
-
-impl From<WriterFault> for SourceFault {
-    fn from(fault: WriterFault) -> SourceFault {
-        SourceFault::Writer(fault)
-    }
-}
-
-impl From<FrameFault> for SourceFault {
-    fn from(fault: FrameFault) -> SourceFault {
-        SourceFault::Frame(fault)
-    }
-}
-
-/// The reason in words.
-impl fmt::Display for SourceFault {
-    fn fmt<W: fmt::Write>(&self, f: &mut fmt::Formatter<W>) -> fmt::Result {
-        match *self {
-            SourceFault::Text(fault) => write!(f, "{fault}"),
-            SourceFault::OutOfRange(name) => write!(f, "the number under {name} is out of range"),
-            SourceFault::Writer(fault) => {
-                let words = InWords(fault.refusal());
-                write!(f, "{words}")
-            }
-            SourceFault::Frame(fault) => {
-                let words = InWords(fault.refusal());
-                write!(f, "{words}")
-            }
+impl SourceFault {
+    /// Its number, layer and place, where a message or a frame is refused.
+    pub fn refusal(self) -> Option<Refusal> {
+        match self {
+            SourceFault::Text(_) | SourceFault::OutOfRange(_) => None,
+            SourceFault::Writer(fault) => Some(fault.refusal()),
+            SourceFault::Frame(fault) => Some(fault.refusal()),
         }
     }
 }

@@ -1,24 +1,18 @@
 //! Writes the frame of a message that is given as text.
 #![tactic(auto)]
 
-use anyhow::anyhow;
+use anyhow::{anyhow, ensure};
 use blocks::Block;
 use blocks::text::Described;
+use kinds::{EachKind, for_each_kind};
+use layout::MessageType;
 use refusal::Refusal;
-use std::env;
-use std::io::{Print, Read};
+use std::alloc::Global;
+use std::io;
+use std::io::Read;
+use terminal::{run, unknown_word};
 use text::{Entries, parse};
-use type10::ephemeris1::Ephemeris1;
-use type10::ephemeris2::Ephemeris2;
-use type10::integrity::Integrity;
-use type30::accuracy::Accuracy;
-use type30::bdt_utc::BdtUtc;
-use type30::clock::Clock;
-use type30::earth_orientation::EarthOrientation;
-use type30::group_delay::GroupDelay;
-use type30::health::Health;
-use type30::ionosphere::Ionosphere;
-use type30::week::Week;
+use writer::fault::WriterFault;
 use writer::{Draft, ask_start, start};
 
 mod fault;
@@ -49,67 +43,69 @@ enum Form {
     Levels,
 }
 
-fn put<K: Block + Described>(draft: &mut Draft, entries: &mut Entries) -> Result<(), SourceFault> {
-    let of = entries.record::<K>()?;
-    draft.put::<K>(&of)?;
-    Ok(())
-}
-
-fn put_10(draft: &mut Draft, entries: &mut Entries) -> Result<(), SourceFault> {
-    put::<Ephemeris1>(draft, entries)?;
-    put::<Ephemeris2>(draft, entries)?;
-    put::<Integrity>(draft, entries)
-}
-
-fn put_30(draft: &mut Draft, entries: &mut Entries) -> Result<(), SourceFault> {
-    put::<Week>(draft, entries)?;
-    put::<Clock>(draft, entries)?;
-    put::<GroupDelay>(draft, entries)?;
-    put::<Ionosphere>(draft, entries)?;
-    put::<BdtUtc>(draft, entries)?;
-    put::<EarthOrientation>(draft, entries)?;
-    put::<Accuracy>(draft, entries)?;
-    put::<Health>(draft, entries)
-}
-
-/// The number under a name, of 8 bits.
-fn take_u8(entries: &mut Entries, name: &'static str) -> Result<u8, SourceFault> {
-    let count = entries.take(name)?;
-    match u8::try_from(count) {
-        Ok(count) => Ok(count),
-        Err(_) => Err(SourceFault::OutOfRange(name)),
+impl Form {
+    /// The form that the first word asks for.
+    fn asked_by(word: Option<&str>) -> anyhow::Result<Form> {
+        match word {
+            None => Ok(Form::Hexadecimal),
+            Some("bytes") => Ok(Form::Bytes),
+            Some("levels") => Ok(Form::Levels),
+            Some(_) => Err(unknown_word()),
+        }
     }
 }
 
-/// The number under a name, of 32 bits.
-fn take_u32(entries: &mut Entries, name: &'static str) -> Result<u32, SourceFault> {
-    let count = entries.take(name)?;
-    match u32::try_from(count) {
-        Ok(count) => Ok(count),
-        Err(_) => Err(SourceFault::OutOfRange(name)),
+/// A draft, and the text that says what it is to hold.
+#[derive(Drop)]
+struct Filling<'a, 'b> {
+    entries: &'a mut Entries,
+    draft: &'a mut Draft<'b>,
+}
+
+/// Puts a block as the text has it.
+impl EachKind for Filling<'_, '_> {
+    type Fault = SourceFault;
+
+    fn kind<K: Block + Described>(&mut self) -> Result<(), SourceFault>
+    where
+        K::Record: PartialEq,
+    {
+        let of = self.entries.record::<K>()?;
+        Ok(self.draft.put::<K>(&of)?)
     }
 }
 
-/// Fills the frame with what the text says.
-fn fill(entries: &mut Entries, frame: &mut [u8]) -> Result<(), SourceFault> {
-    let satellite = take_u8(entries, "satellite")?;
-    let number = take_u8(entries, "type")?;
-    let second = take_u32(entries, "second")?;
+/// The number under a name, where its type has it.
+fn take<T: TryFrom<i64>>(entries: &mut Entries, name: &'static str) -> Result<T, SourceFault>
+where
+    T::Error: Drop,
+{
+    let count = entries.take(name)?;
+    T::try_from(count).map_err(|_| SourceFault::OutOfRange(name))
+}
+
+/// The frame of the message that a text says.
+fn frame_of(heap: Global, said: &str) -> Result<[u8; 125], SourceFault> {
+    let mut entries = parse(heap, said)?;
+    let satellite: u8 = take(&mut entries, "satellite")?;
+    let number: u8 = take(&mut entries, "type")?;
+    let second: u32 = take(&mut entries, "second")?;
     let mut symbols = [0u8; 162];
-    if let Err(fault) = ask_start(symbols.len(), number, second) {
-        return Err(SourceFault::Writer(fault));
-    }
+    ask_start(symbols.len(), number, second)?;
+    let of = MessageType::from_number(number).ok_or(WriterFault::UnknownType(number))?;
     let mut draft = start(&mut symbols, number, second);
-    match number {
-        10 => put_10(&mut draft, entries)?,
-        _ => put_30(&mut draft, entries)?,
-    }
+    for_each_kind(
+        of,
+        &mut Filling {
+            entries: &mut entries,
+            draft: &mut draft,
+        },
+    )?;
     entries.finish()?;
-    if let Err(fault) = draft.ask_seal() {
-        return Err(SourceFault::Writer(fault));
-    }
-    draft.seal().encode().frame(satellite, frame)?;
-    Ok(())
+    draft.ask_seal()?;
+    let mut frame = [0u8; 125];
+    draft.seal().encode().frame(satellite, &mut frame)?;
+    Ok(frame)
 }
 
 fn print_hexadecimal(rt: &HostRuntime, frame: &[u8]) -> anyhow::Result<()> {
@@ -124,71 +120,61 @@ fn print_hexadecimal(rt: &HostRuntime, frame: &[u8]) -> anyhow::Result<()> {
 fn write_levels(rt: &HostRuntime, frame: &[u8]) -> anyhow::Result<()> {
     let mut levels = Vec::new(rt.alloc());
     for byte in frame {
-        for i in 0..8u32 {
-            let level: f32 = if *byte >> (7 - i) & 1 == 0 { 1.0 } else { -1.0 };
+        for i in (0..8u32).rev() {
+            let level: f32 = if *byte >> i & 1 == 0 { 1.0 } else { -1.0 };
             levels.extend_from_slice(&level.to_le_bytes())?;
         }
     }
     Ok(rt.write_all(&levels)?)
 }
 
-fn write_frame(rt: &HostRuntime, form: Form, frame: &[u8]) -> anyhow::Result<()> {
-    match form {
-        Form::Hexadecimal => print_hexadecimal(rt, frame),
-        Form::Bytes => Ok(rt.write_all(frame)?),
-        Form::Levels => write_levels(rt, frame),
-    }
+/// Where the answer goes, and the form of the frame.
+#[derive(Drop)]
+struct Output<'a> {
+    rt: &'a HostRuntime,
+    form: Form,
 }
 
-/// Prints the line of a refusal where no frame is expected.
-fn print_refusal(rt: &HostRuntime, form: Form, refusal: Refusal) -> anyhow::Result<()> {
-    match form {
-        Form::Hexadecimal => Ok(println!(rt; "{refusal}")?),
-        _ => Ok(eprintln!(rt; "{refusal}")?),
+impl Output<'_> {
+    fn write_frame(&self, frame: &[u8]) -> anyhow::Result<()> {
+        match self.form {
+            Form::Hexadecimal => print_hexadecimal(self.rt, frame),
+            Form::Bytes => Ok(self.rt.write_all(frame)?),
+            Form::Levels => write_levels(self.rt, frame),
+        }
     }
-}
 
-fn refuse(rt: &HostRuntime, form: Form, fault: SourceFault) -> anyhow::Result<()> {
-    match fault {
-        SourceFault::Writer(fault) => print_refusal(rt, form, fault.refusal())?,
-        SourceFault::Frame(fault) => print_refusal(rt, form, fault.refusal())?,
-        _ => {}
+    /// Prints the line of a refusal where no frame is expected.
+    fn print_refusal(&self, refusal: Refusal) -> io::Result<()> {
+        match self.form {
+            Form::Hexadecimal => println!(self.rt; "{refusal}"),
+            _ => eprintln!(self.rt; "{refusal}"),
+        }
     }
-    eprintln!(rt; "source: {fault}")?;
-    Err(anyhow!("no frame was written"))
-}
 
-fn answer(rt: &HostRuntime, form: Form) -> anyhow::Result<()> {
-    let mut said = String::new(rt.alloc());
-    let read = rt.stdin().take(LIMIT).read_to_string(&mut said)?;
-    if read as u64 == LIMIT {
-        return Err(anyhow!("the text has more than 65536 bytes"));
+    fn refuse(&self, fault: SourceFault) -> anyhow::Result<()> {
+        if let Some(refusal) = fault.refusal() {
+            self.print_refusal(refusal)?;
+        }
+        eprintln!(self.rt; "source: {fault}")?;
+        Err(anyhow!("no frame was written"))
     }
-    let mut frame = [0u8; 125];
-    let filled = match parse(rt.alloc(), said.as_str()) {
-        Ok(mut entries) => fill(&mut entries, &mut frame),
-        Err(fault) => Err(SourceFault::Text(fault)),
-    };
-    match filled {
-        Ok(()) => write_frame(rt, form, &frame),
-        Err(fault) => refuse(rt, form, fault),
-    }
-}
 
-fn run(rt: &HostRuntime) -> anyhow::Result<()> {
-    let mut args = env::args(rt)?;
-    let _program = args.next();
-    match args.next() {
-        None => answer(rt, Form::Hexadecimal),
-        Some(word) => match word.as_str() {
-            "bytes" => answer(rt, Form::Bytes),
-            "levels" => answer(rt, Form::Levels),
-            "--help" => Ok(println!(rt; "{HELP}")?),
-            _ => Err(anyhow!("unknown argument; try --help")),
-        },
+    /// Answers the text on standard input.
+    fn answer(&self) -> anyhow::Result<()> {
+        let mut said = String::new(self.rt.alloc());
+        let read = self.rt.stdin().take(LIMIT).read_to_string(&mut said)?;
+        ensure!(read as u64 != LIMIT, "the text has more than 65536 bytes");
+        match frame_of(self.rt.alloc(), said.as_str()) {
+            Ok(frame) => self.write_frame(&frame),
+            Err(fault) => self.refuse(fault),
+        }
     }
 }
 
 fn main(rt: HostRuntime) -> anyhow::Result<()> {
-    run(&rt)
+    run(&rt, HELP, |word| {
+        let form = Form::asked_by(word)?;
+        Output { rt: &rt, form }.answer()
+    })
 }

@@ -5,6 +5,7 @@ ghost use Rattle.text.specs.declared.fault.TextFault.TheVariants.{NoMemory};
 
 use std::alloc::{AllocError, AllocFailed};
 use std::fmt;
+use thiserror::Error;
 
 /// The name of a number in a text.
 #[derive(Clone, Copy, PartialEq, Debug)]
@@ -43,20 +44,27 @@ impl fmt::Display for Name {
 }
 
 /// Why a text is not read. A line has its number, from 1.
-#[derive(Clone, Copy, PartialEq, Debug)]
+#[derive(Clone, Copy, PartialEq, Debug, Error)]
 pub enum TextFault {
+    #[error("there is no memory for the text")]
     NoMemory,
     /// A name stands alone.
+    #[error("line {line}: there is no number after the name")]
     NoNumber { line: usize },
     /// What stands after the name is not a whole number of 64 bits.
+    #[error("line {line}: what follows the name is not a whole number")]
     BadNumber { line: usize },
     /// More than a name and a number.
+    #[error("line {line}: more than a name and a number")]
     TooLong { line: usize },
     /// The name stands on an earlier line too.
+    #[error("line {line}: the name stands twice")]
     Doubled { line: usize },
     /// Nobody asked for the name.
+    #[error("line {line}: the name is not known here")]
     Unknown { line: usize },
     /// The name does not stand in the text.
+    #[error("{0} is missing")]
     Missing(Name),
 }
 
@@ -73,25 +81,5 @@ impl<T: Drop> From<AllocFailed<T>> for TextFault {
 
     fn from(_fault: AllocFailed<T>) -> TextFault {
         TextFault::NoMemory
-    }
-}
-
-impl fmt::Display for TextFault {
-    fn fmt<W: fmt::Write>(&self, f: &mut fmt::Formatter<W>) -> fmt::Result {
-        match *self {
-            TextFault::NoMemory => write!(f, "there is no memory for the text"),
-            TextFault::NoNumber { line } => write!(
-                f,
-                "line {line}: there is no number after the name"
-            ),
-            TextFault::BadNumber { line } => write!(
-                f,
-                "line {line}: what follows the name is not a whole number"
-            ),
-            TextFault::TooLong { line } => write!(f, "line {line}: more than a name and a number"),
-            TextFault::Doubled { line } => write!(f, "line {line}: the name stands twice"),
-            TextFault::Unknown { line } => write!(f, "line {line}: the name is not known here"),
-            TextFault::Missing(name) => write!(f, "{name} is missing"),
-        }
     }
 }

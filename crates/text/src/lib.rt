@@ -37,6 +37,8 @@ impl Entry {
 }
 
 /// The lines of a text that say something, in their order. No name stands twice.
+///
+/// A list, since a map would need memory for the key BLOCK.FIELD at each look-up, which cannot fail for memory.
 #[derive(Drop)]
 pub struct Entries {
     list: Vec<Entry>,
@@ -101,10 +103,7 @@ impl Entries {
     fn add(&mut self, heap: Global, number: usize, line: &str) -> Result<(), TextFault>
         ensures { Unused self.old.list.items → Unused self.new.list.items }
     {
-        let said = match line.split_once('#') {
-            Some((said, _comment)) => said,
-            None => line,
-        };
+        let said = line.split_once('#').map_or(line, |(said, _comment)| said);
         let mut words = said.split_whitespace();
         let Some(name) = words.next() else {
             return Ok(());

@@ -1,4 +1,4 @@
-use Rattle.std.proofs.Common.{◌≡◌, Bool, true, false, not, cond, List, [], ◌∷◌, Ok, Err, Some, None, Option, Result, refl, sym, ap, ◌∙◌, rules, tests}
+use Rattle.std.proofs.Common.{◌≡◌, Bool, true, false, not, cond, List, [], ◌∷◌, Ok, Err, Some, None, Option, Result, refl, ap, ◌∙◌, rules, tests}
 use Rattle.std.proofs.lemmas.Iterator.{YieldsList-from_slice}
 use Rattle.std.proofs.lemmas.Iterator.Search.{find_from_yields_List}
 use Rattle.std.specs.List.{find}
@@ -8,6 +8,7 @@ use Rattle.text.specs.declared.fault.TextFault.{TextFault}
 use Rattle.text.specs.declared.fault.TextFault.TheVariants.{Unknown}
 use Rattle.text.specs.Lines.{finished}
 use Rattle.text.proofs.Entries.finish.Goals as goal
+use Rattle.text.proofs.Entries.finish.Goals.{After-find}
 
 -- what is answered of the first line that is not used
 abbrev answer_of : Option Entry → Result (Unit {0}) TextFault
@@ -24,14 +25,16 @@ first_unused (e ∷ es) =
     elim e.used as (λ (b : Bool). answer_of (cond (not b) (Some e) (find unused es)) ≡ cond b (finished es) (Err (Unknown e.line)))
     [ true ↦ first_unused es | false ↦ refl ]
 
+-- what was found gives the answer
+found : (c : After-find) → answer_of (option_copied c.find.result) ≡ finished c.args.self.now.list.items
+found c =
+    ap answer_of
+    (find_from_yields_List unused _ _ c.find.result c.find.ensures.ran (YieldsList-from_slice c.args.self.now.list.items (cc))
+    (λ x b q k. search (rules, tests)))
+    ∙ first_unused c.args.self.now.list.items
+
 pub returns-in-Some : goal.returns-in-Some
-returns-in-Some c =
-    let found : option_copied c.find.result ≡ find unused c.args.self.now.list.items =
-    find_from_yields_List unused _ _ c.find.result c.find.ensures.ran (YieldsList-from_slice c.args.self.now.list.items (cc)) (λ x b q k. search (rules, tests)) in
-    ap answer_of (sym (ap option_copied c.in-Some.is) ∙ found) ∙ first_unused c.args.self.now.list.items
+returns-in-Some c = rw c.in-Some.is at (found (goal.at.returns-in-Some c).After-find)
 
 pub returns-in-None : goal.returns-in-None
-returns-in-None c =
-    let found : option_copied c.find.result ≡ find unused c.args.self.now.list.items =
-    find_from_yields_List unused _ _ c.find.result c.find.ensures.ran (YieldsList-from_slice c.args.self.now.list.items (cc)) (λ x b q k. search (rules, tests)) in
-    ap answer_of (sym (ap option_copied c.in-None.is) ∙ found) ∙ first_unused c.args.self.now.list.items
+returns-in-None c = rw c.in-None.is at (found (goal.at.returns-in-None c).After-find)
