@@ -59,6 +59,7 @@ pub fn put_bits(symbols: &mut [u8], at: usize, width: usize, value: u64)
     if symbols.len() < 81 || width > 55 || at > 486 - width {
         return;
     }
+    // i is a number here, from which each bit's place and power follow, and no index.
     for i in 0..width {
         set_bit(symbols, at + i, ((value >> (width - 1 - i)) % 2) as u8);
     }

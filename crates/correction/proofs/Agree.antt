@@ -1,15 +1,13 @@
 -- Lists that agree but at one place or two, and lists altered at a place.
 use Rattle.std.proofs.Common.{◌≡◌, ℕ, ◌<◌, ◌≢◌, List, length, get_or, set, sym, ap, ◌∙◌, inl, inr, arith}
-use lib.Bits.{bit_xor, xor_assoc, xor_self, xor_zero_l, xor_zero_r}
+use lib.Bits.{bit_xor, xor_assoc, xor_self, xor_zero_l}
 use Rattle.std.proofs.lemmas.List.{ext_get_or, get_or-set_same, get_or-set_other, length-set, set-get_or, set_past, set-set}
 use Rattle.std.proofs.lemmas.Bool.{cases_eq, cases_lt}
 use Rattle.parity.specs.Code.{altered}
+use Rattle.parity.proofs.Distance.{xor_off}
 
 pub xor_back : (x y : ℕ) → bit_xor x (bit_xor x y) ≡ y
 xor_back x y = sym (xor_assoc x x y) ∙ ap (λ z. bit_xor z y) (xor_self x) ∙ xor_zero_l y
-
-xor_off : (x y : ℕ) → bit_xor (bit_xor x y) y ≡ x
-xor_off x y = xor_assoc x y y ∙ ap (bit_xor x) (xor_self y) ∙ xor_zero_r x
 
 -- what agrees with w but at p and q is w with its symbols written there
 pub set_both : (w v : List ℕ) (p q : ℕ) → length w ≡ length v → ((k : ℕ) → k ≢ p → k ≢ q → get_or w k 0 ≡ get_or v k 0)

@@ -22,12 +22,10 @@ fn error_at(word: &Word, place: usize, other: usize) -> u8
     ensures solves { Solves bcnav3 word.now.bytes place other result }
     ensures below { result < 64 }
 {
-    for row in 0..81usize {
-        if tells(row, place, other) {
-            return product(inverse(factor_at(row, place)), word.row_sum(row));
-        }
+    match (0..81usize).find(|row| tells(*row, place, other)) {
+        Some(row) => product(inverse(factor_at(row, place)), word.row_sum(row)),
+        None => 0,
     }
-    0
 }
 
 /// The only code word that agrees with the word outside two places; none where there is none.

@@ -13,6 +13,7 @@ use table::{exp, log};
 mod table;
 
 /// The product of two symbols, each the low six bits of its byte.
+// A symbol is a byte, and no type of its own: words lie in lent bytes, and such a type would only be wrapped and unwrapped at each.
 pub fn product(a: u8, b: u8) -> u8
     ensures low { result ≡ mul (a % 64) (b % 64) }
     ensures same { a < 64 → b < 64 → result ≡ mul a b }

@@ -29,6 +29,9 @@ pub xor_eq : (a b : ℕ) → bit_xor a b ≡ 0 → a ≡ b
 xor_eq a b e =
     sym (xor_zero_r a) ∙ ap (bit_xor a) (sym (xor_self b)) ∙ sym (xor_assoc a b b) ∙ ap (λ k. bit_xor k b) e
 
+pub xor_off : (a b : ℕ) → bit_xor (bit_xor a b) b ≡ a
+xor_off a b = xor_assoc a b b ∙ ap (bit_xor a) (xor_self b) ∙ xor_zero_r a
+
 -- code words that agree but at x and y are equal
 pub apart : (c : Code) → Sound c → (u v : List ℕ) → Codeword c u → Codeword c v → (x y : ℕ)
     → ((k : ℕ) → k ≢ x → k ≢ y → get_or u k 0 ≡ get_or v k 0) → u ≡ v

@@ -1,10 +1,9 @@
 -- The first number that fails a test, found by going up.
 use Rattle.std.proofs.Common.{◌≡◌, ℕ, zero, suc, ◌+◌, ◌<◌, ◌≤◌, Bool, true, false, not, cond, ltb, List, length, get_or, Some, None, Option, sym, refl, ap, ◌∙◌, inl, inr, arith}
-use Rattle.std.proofs.lemmas.Bool.{cases_eq, cond-true, cond-false, cond_both, ltb-true, ltb-false}
+use Rattle.std.proofs.lemmas.Bool.{cases_Bool, cases_eq, cond-true, cond-false, cond_both, ltb-true, ltb-false}
 use Rattle.std.proofs.lemmas.List.Sums.{fails_before_first, passes_at_first}
 use Rattle.std.specs.List.{position_or_len}
 use Rattle.parity.specs.Bytes.{first_from, first}
-use Rattle.parity.proofs.Cases.{by}
 
 from_none : (p : ℕ → Bool) (n i : ℕ) → ((k : ℕ) → i ≤ k → k < i + n → p k ≡ true) → first_from i n p ≡ None
 unfolding first_from
@@ -53,10 +52,11 @@ from_some : (p : ℕ → Bool) (n i k : ℕ) → first_from i n p ≡ Some k →
 unfolding first_from
 from_some p zero i k e = let z : ◌≡◌ {A = ℕ} 0 1 = cc in absurd (omega arith)
 from_some p (suc n) i k e =
-    by (p i)
-    (λ t. let h = from_some p n (suc i) k (sym (cond-true (p i) (first_from (suc i) n p) (Some i) t) ∙ e) in (omega (arith, h.0), h.1))
-    (λ t. let q : Some i ≡ Some k = sym (cond-false (p i) (first_from (suc i) n p) (Some i) t) ∙ e in
-    let same : i ≡ k = cc in (omega arith, ap p (sym same) ∙ t))
+    elim (cases_Bool (p i)) [
+      | inl t ↦ let h = from_some p n (suc i) k (sym (cond-true (p i) (first_from (suc i) n p) (Some i) t) ∙ e) in (omega (arith, h.0), h.1)
+      | inr t ↦ let q : Some i ≡ Some k = sym (cond-false (p i) (first_from (suc i) n p) (Some i) t) ∙ e in
+          let same : i ≡ k = cc in (omega arith, ap p (sym same) ∙ t)
+    ]
 
 pub first_some : (p : ℕ → Bool) (n k : ℕ) → first n p ≡ Some k → (k < n) × (p k ≡ false)
 first_some p n k e = let h = from_some p n 0 k e in (omega (arith, h.0), h.1)

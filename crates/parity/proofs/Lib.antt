@@ -1,4 +1,3 @@
-pub mod Cases
 pub mod Split
 pub mod Weights
 pub mod Places

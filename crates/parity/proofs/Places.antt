@@ -1,10 +1,9 @@
 -- Lists that differ at few places.
-use Rattle.std.proofs.Common.{◌≡◌, ℕ, zero, suc, ◌≤◌, eqb, ◌≢◌, List, [], ◌∷◌, map, length, get_or, set, sym, refl, ap, ◌∙◌, arith, lit≤}
+use Rattle.std.proofs.Common.{◌≡◌, ℕ, zero, suc, ◌≤◌, eqb, ◌≢◌, List, [], ◌∷◌, map, length, get_or, set, sym, refl, ap, ◌∙◌, inl, inr, arith, lit≤}
 use Rattle.std.proofs.lemmas.List.{length-map}
-use Rattle.std.proofs.lemmas.Bool.{eq-eqb, eqb-true, cond-true, cond-false, cond_both}
+use Rattle.std.proofs.lemmas.Bool.{cases_Bool, eq-eqb, eqb-true, cond-true, cond-false, cond_both}
 use Rattle.std.specs.List.{AllByRecursion}
 use Rattle.parity.specs.Code.{differences}
-use Rattle.parity.proofs.Cases.{by}
 
 pub differences_none : (u : List ℕ) → differences u u ≡ 0
 unfolding differences
@@ -38,23 +37,24 @@ outside (x ∷ u) (y ∷ v) h =
     let n : ℕ = differences u v in
     let o = outside u v (omega arith) in
     let m : length (map suc o.places) ≡ n = length-map o.places suc ∙ o.count in
-    by (eqb x y)
-    (λ t. record {
-      places = map suc o.places;
-      count = m ∙ sym (cond-true (eqb x y) n (suc n) t);
-      rest = λ k. elim k as (λ j. AllByRecursion (λ p. j ≢ p) (map suc o.places) → get_or (x ∷ u) j 0 ≡ get_or (y ∷ v) j 0) [
-        | zero ↦ λ a. eqb-true x y t
-        | suc j ↦ λ a. o.rest j (lower j o.places a)
-      ];
-    })
-    (λ t. record {
-      places = 0 ∷ map suc o.places;
-      count = ap suc m ∙ sym (cond-false (eqb x y) n (suc n) t);
-      rest = λ k. elim k as (λ j. AllByRecursion (λ p. j ≢ p) (0 ∷ map suc o.places) → get_or (x ∷ u) j 0 ≡ get_or (y ∷ v) j 0) [
-        | zero ↦ λ a. absurd (a.0 refl)
-        | suc j ↦ λ a. o.rest j (lower j o.places a.1)
-      ];
-    })
+    elim (cases_Bool (eqb x y)) [
+      | inl t ↦ record {
+        places = map suc o.places;
+        count = m ∙ sym (cond-true (eqb x y) n (suc n) t);
+        rest = λ k. elim k as (λ j. AllByRecursion (λ p. j ≢ p) (map suc o.places) → get_or (x ∷ u) j 0 ≡ get_or (y ∷ v) j 0) [
+          | zero ↦ λ a. eqb-true x y t
+          | suc j ↦ λ a. o.rest j (lower j o.places a)
+        ];
+      }
+      | inr t ↦ record {
+        places = 0 ∷ map suc o.places;
+        count = ap suc m ∙ sym (cond-false (eqb x y) n (suc n) t);
+        rest = λ k. elim k as (λ j. AllByRecursion (λ p. j ≢ p) (0 ∷ map suc o.places) → get_or (x ∷ u) j 0 ≡ get_or (y ∷ v) j 0) [
+          | zero ↦ λ a. absurd (a.0 refl)
+          | suc j ↦ λ a. o.rest j (lower j o.places a.1)
+        ];
+      }
+    ]
 
 -- two places, and that the lists agree at every other
 pub record Two (u v : List ℕ) : Type 0 where

@@ -1,6 +1,6 @@
 -- The check symbols round the ring: they make a code word of the message, and no others do.
 use Rattle.std.proofs.Common.{◌≡◌, ℕ, zero, suc, ◌+◌, ◌-◌, ◌<◌, ◌≤◌, Bool, ◌&&◌, eqb, ltb, leb, ◌≢◌, List, [], ◌∷◌, length, get_or, set, sym, refl, ap, ◌∙◌, subst, ap₂, inl, inr, arith, lit<, lit≤}
-use lib.Bits.{bit_xor, xor_assoc, xor_comm, xor_self, xor_zero_r}
+use lib.Bits.{bit_xor, xor_assoc, xor_comm, xor_self}
 use Rattle.std.proofs.lemmas.List.{ext_get_or, get_or_default, get_or-set_same, get_or-set_other}
 use Rattle.std.proofs.lemmas.Bool.{and_parts, cases_eq, cases_lt, eqb-true, leb-true, ltb-true}
 use Rattle.std.specs.List.{Contains}
@@ -10,7 +10,7 @@ use Rattle.gf64.proofs.Laws.{mul_lt, mul_comm, mul_assoc, mul_one, mul_xor_l, mu
 use Rattle.parity.specs.Code.{SymbolList, Codeword, sym_at, weighted, row_sum}
 use Rattle.parity.specs.Table.{rows, places, factors, bcnav3, place_at, factor_at}
 use Rattle.parity.specs.Ring.{ring, turn_at, from_place, to_place, from_factor, to_factor, term, message_sum, turned, next, run, start}
-use Rattle.parity.proofs.Distance.{xor_eq}
+use Rattle.parity.proofs.Distance.{xor_eq, xor_off}
 use Rattle.parity.proofs.Rows.{place_lt, factor_lt, row_terms, rows_81}
 use Rattle.parity.proofs.Small.{set_symbols}
 
@@ -259,9 +259,6 @@ gain_round = refl
 unit : mul 34 27 ≡ 1
 unfolding mul mul_low times_x scaled
 unit = refl
-
-xor_off : (a b : ℕ) → bit_xor (bit_xor a b) b ≡ a
-xor_off a b = xor_assoc a b b ∙ ap (bit_xor a) (xor_self b) ∙ xor_zero_r a
 
 linear : (i s a r g x : ℕ) → i < 64 → s < 64 → a < 64 → r < 64 → g < 64 → x < 64
     → mul i (bit_xor s (mul a (bit_xor r (mul g x)))) ≡ bit_xor (mul i (bit_xor s (mul a r))) (mul (mul i (mul a g)) x)

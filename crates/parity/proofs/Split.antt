@@ -1,9 +1,8 @@
 -- In a sound table, some row has a given place and not another given place.
-use Rattle.std.proofs.Common.{◌≡◌, ℕ, suc, ◌<◌, ◌≤◌, true, false, not, ◌&&◌, eqb, ◌≢◌, List, [], ◌∷◌, length, get_or, sym, ap, ◌∙◌, arith}
-use Rattle.std.proofs.lemmas.Bool.{eqb-true}
+use Rattle.std.proofs.Common.{◌≡◌, ℕ, suc, ◌<◌, ◌≤◌, true, false, not, ◌&&◌, eqb, ◌≢◌, List, [], ◌∷◌, length, get_or, sym, ap, ◌∙◌, inl, inr, arith}
+use Rattle.std.proofs.lemmas.Bool.{cases_Bool, eqb-true}
 use Rattle.parity.specs.Code.{Code, places_of}
 use Rattle.parity.specs.Sound.{absent, one, rows_with, shared, Sound}
-use Rattle.parity.proofs.Cases.{by}
 
 abbrev In : ℕ → List ℕ → Type 0
 In x ps = absent x ps ≡ false
@@ -16,7 +15,10 @@ none_in x e = let z : ◌≡◌ {A = ℕ} 0 1 = cc in omega arith
 head_or_rest : {X : Type 0} (x p : ℕ) (ps : List ℕ) → In x (p ∷ ps) → (p ≡ x → X) → (In x ps → X) → X
 unfolding absent
 head_or_rest x p ps e f g =
-    by (eqb p x) (λ t. f (eqb-true p x t)) (λ t. g (ap (λ b. not b && absent x ps) (sym t) ∙ e))
+    elim (cases_Bool (eqb p x)) [
+      | inl t ↦ f (eqb-true p x t)
+      | inr t ↦ g (ap (λ b. not b && absent x ps) (sym t) ∙ e)
+    ]
 
 counted : (x : ℕ) (ps : List ℕ) → In x ps → one (not (absent x ps)) ≡ 1
 unfolding one
@@ -36,10 +38,11 @@ one_row : (x : ℕ) (rs : List (List ℕ)) → 1 ≤ rows_with x rs → HasOne x
 unfolding rows_with
 one_row x [] h = absurd (omega arith)
 one_row x (r ∷ rs) h =
-    by (absent x r)
-    (λ t. let n = one_row x rs (omega (arith, uncounted x r t)) in
-    record { at = suc n.at; low = omega (arith, n.low); has = n.has })
-    (λ t. record { at = 0; low = omega arith; has = t })
+    elim (cases_Bool (absent x r)) [
+      | inl t ↦ let n = one_row x rs (omega (arith, uncounted x r t)) in
+          record { at = suc n.at; low = omega (arith, n.low); has = n.has }
+      | inr t ↦ record { at = 0; low = omega arith; has = t }
+    ]
 
 -- two rows of the list that have x
 record HasTwo (x : ℕ) (rs : List (List ℕ)) : Type 0 where
@@ -54,11 +57,12 @@ two_rows : (x : ℕ) (rs : List (List ℕ)) → 2 ≤ rows_with x rs → HasTwo 
 unfolding rows_with
 two_rows x [] h = absurd (omega arith)
 two_rows x (r ∷ rs) h =
-    by (absent x r)
-    (λ t. let n = two_rows x rs (omega (arith, uncounted x r t)) in
-    record { high = suc n.high; low = suc n.low; inside = omega (arith, n.inside); less = omega (arith, n.less); has_high = n.has_high; has_low = n.has_low })
-    (λ t. let n = one_row x rs (omega (arith, counted x r t)) in
-    record { high = suc n.at; low = 0; inside = omega (arith, n.low); less = omega arith; has_high = n.has; has_low = t })
+    elim (cases_Bool (absent x r)) [
+      | inl t ↦ let n = two_rows x rs (omega (arith, uncounted x r t)) in
+          record { high = suc n.high; low = suc n.low; inside = omega (arith, n.inside); less = omega (arith, n.less); has_high = n.has_high; has_low = n.has_low }
+      | inr t ↦ let n = one_row x rs (omega (arith, counted x r t)) in
+          record { high = suc n.at; low = 0; inside = omega (arith, n.low); less = omega arith; has_high = n.has; has_low = t }
+    ]
 
 -- a place of both lists counts
 share_some : (x : ℕ) (ps qs : List ℕ) → In x ps → In x qs → 1 ≤ shared ps qs
@@ -90,12 +94,14 @@ pub splits : (c : Code) → Sound c → (x y : ℕ) → x < c.size → x ≢ y �
 splits c s x y h n =
     let w = two_rows x c.places (omega (arith, s.two_rows x h)) in
     let below : w.low < length c.places = omega (arith, w.inside, w.less) in
-    by (absent y (places_of c w.high))
-    (λ t. record { row = w.high; low = w.inside; has = w.has_high; lacks = t })
-    (λ t. by (absent y (places_of c w.low))
-    (λ u. record { row = w.low; low = below; has = w.has_low; lacks = u })
-    (λ u. absurd (omega (
-      arith,
-      s.share_one w.high w.low w.inside w.less,
-      share_both x y (places_of c w.high) (places_of c w.low) n w.has_high t w.has_low u,
-    ))))
+    elim (cases_Bool (absent y (places_of c w.high))) [
+      | inl t ↦ record { row = w.high; low = w.inside; has = w.has_high; lacks = t }
+      | inr t ↦ elim (cases_Bool (absent y (places_of c w.low))) [
+        | inl u ↦ record { row = w.low; low = below; has = w.has_low; lacks = u }
+        | inr u ↦ absurd (omega (
+          arith,
+          s.share_one w.high w.low w.inside w.less,
+          share_both x y (places_of c w.high) (places_of c w.low) n w.has_high t w.has_low u,
+        ))
+      ]
+    ]

@@ -1,15 +1,14 @@
 -- The sum of a row, and the factor that a place has in it.
-use Rattle.std.proofs.Common.{◌≡◌, ℕ, ◌<◌, true, false, not, ◌&&◌, eqb, ltb, ◌≢◌, List, [], ◌∷◌, length, map, sym, refl, ap, ◌∙◌, ap₂, arith, lit<}
+use Rattle.std.proofs.Common.{◌≡◌, ℕ, ◌<◌, true, false, not, ◌&&◌, eqb, ltb, ◌≢◌, List, [], ◌∷◌, length, map, sym, refl, ap, ◌∙◌, ap₂, inl, inr, arith, lit<}
 use mathlib.Core.Path.{subst⁻¹}
 use Rattle.std.specs.List.{find}
 use Rattle.std.specs.Option.{option_map_or}
 use lib.Bits.{bit_xor, xor_zero_l, xor_zero_r}
-use Rattle.std.proofs.lemmas.Bool.{and_parts, and_left, and_right, eq-eqb, eqb-true, eqb-false, ltb-true, not-true, cond-true, cond-false}
+use Rattle.std.proofs.lemmas.Bool.{cases_Bool, and_parts, and_left, and_right, eq-eqb, eqb-true, eqb-false, ltb-true, not-true, cond-true, cond-false}
 use Rattle.gf64.specs.Field.{mul}
 use Rattle.gf64.proofs.Laws.{mul_lt, mul_comm, mul_xor_r, mul_zero, xor_small, xor_medial}
 use Rattle.parity.specs.Code.{weighted, factor_in}
 use Rattle.parity.specs.Sound.{absent, distinct, units}
-use Rattle.parity.proofs.Cases.{by}
 
 -- what the test of the factors says
 record UnitAndRest (f : ℕ) (fs : List ℕ) : Type 0 where
@@ -52,9 +51,10 @@ factor_in_lt x [] fs t = lit< tt
 factor_in_lt x (p ∷ ps) [] t = lit< tt
 factor_in_lt x (p ∷ ps) (f ∷ fs) t =
     let q = unit_and_rest f fs t in
-    by (eqb p x)
-    (λ e. subst⁻¹ (λ (z : ℕ). z < 64) (cond-true (eqb p x) f (factor_in x ps fs) e) q.small)
-    (λ e. subst⁻¹ (λ (z : ℕ). z < 64) (cond-false (eqb p x) f (factor_in x ps fs) e) (factor_in_lt x ps fs q.rest))
+    elim (cases_Bool (eqb p x)) [
+      | inl e ↦ subst⁻¹ (λ (z : ℕ). z < 64) (cond-true (eqb p x) f (factor_in x ps fs) e) q.small
+      | inr e ↦ subst⁻¹ (λ (z : ℕ). z < 64) (cond-false (eqb p x) f (factor_in x ps fs) e) (factor_in_lt x ps fs q.rest)
+    ]
 
 -- it is 0 where the row does not have the place, and not 0 where it does
 pub factor_absent : (x : ℕ) (ps fs : List ℕ) → absent x ps ≡ true → factor_in x ps fs ≡ 0
@@ -71,19 +71,21 @@ factor_present x [] fs l t z = refl
 factor_present x (p ∷ ps) [] l t z = absurd (omega arith)
 factor_present x (p ∷ ps) (f ∷ fs) l t z =
     let q = unit_and_rest f fs t in
-    by (eqb p x)
-    (λ e. absurd (q.some (sym (cond-true (eqb p x) f (factor_in x ps fs) e) ∙ z)))
-    (λ e. ap (λ b. not b && absent x ps) e
-    ∙ factor_present x ps fs (omega arith) q.rest (sym (cond-false (eqb p x) f (factor_in x ps fs) e) ∙ z))
+    elim (cases_Bool (eqb p x)) [
+      | inl e ↦ absurd (q.some (sym (cond-true (eqb p x) f (factor_in x ps fs) e) ∙ z))
+      | inr e ↦ ap (λ b. not b && absent x ps) e
+          ∙ factor_present x ps fs (omega arith) q.rest (sym (cond-false (eqb p x) f (factor_in x ps fs) e) ∙ z)
+    ]
 
 -- the same, found in a row of places with their factors
 pub factor_found : (x : ℕ) (row : List (ℕ × ℕ)) → option_map_or (λ e. e.1) (find (λ e. eqb e.0 x) row) 0 ≡ factor_in x (map (λ e. e.0) row) (map (λ e. e.1) row)
 unfolding factor_in
 factor_found x [] = refl
 factor_found x (e ∷ row) =
-    by (eqb e.0 x)
-    (λ t. rw t refl)
-    (λ t. rw t (factor_found x row))
+    elim (cases_Bool (eqb e.0 x)) [
+      | inl t ↦ rw t refl
+      | inr t ↦ rw t (factor_found x row)
+    ]
 
 -- ---- sums of what is 0 nearly everywhere
 
@@ -112,12 +114,13 @@ sum_at x (p ∷ ps) [] d l t u h z = absurd (omega arith)
 sum_at x (p ∷ ps) (f ∷ fs) d l t u h z =
     let q = unit_and_rest f fs t in
     let parts = and_parts (absent p ps) (distinct ps) u in
-    by (eqb p x)
-    (λ s. let e : p ≡ x = eqb-true p x s in
-    let other : (k : ℕ) → absent k ps ≡ false → k ≢ x =
-    λ k g j. let b : ◌≡◌ {A = ℕ} 0 1 = cc (ap (λ i. absent i ps) (j ∙ sym e), g, parts.0) in omega arith in
-    ap₂ bit_xor (ap (λ k. mul f (d k)) e) (sum_zero ps fs d q.rest (λ k g. z k (further k p ps g) (other k g)))
-    ∙ xor_zero_r (mul f (d x)) ∙ ap (λ g. mul g (d x)) (sym (cond-true (eqb p x) f (factor_in x ps fs) s)))
-    (λ s. ap₂ bit_xor (ap (mul f) (z p (at_head p ps) (eqb-false p x s)) ∙ mul_zero f q.small)
-    (sum_at x ps fs d (omega arith) q.rest parts.1 h (λ k g. z k (further k p ps g)))
-    ∙ xor_zero_l (mul (factor_in x ps fs) (d x)) ∙ ap (λ g. mul g (d x)) (sym (cond-false (eqb p x) f (factor_in x ps fs) s)))
+    elim (cases_Bool (eqb p x)) [
+      | inl s ↦ let e : p ≡ x = eqb-true p x s in
+          let other : (k : ℕ) → absent k ps ≡ false → k ≢ x =
+          λ k g j. let b : ◌≡◌ {A = ℕ} 0 1 = cc (ap (λ i. absent i ps) (j ∙ sym e), g, parts.0) in omega arith in
+          ap₂ bit_xor (ap (λ k. mul f (d k)) e) (sum_zero ps fs d q.rest (λ k g. z k (further k p ps g) (other k g)))
+          ∙ xor_zero_r (mul f (d x)) ∙ ap (λ g. mul g (d x)) (sym (cond-true (eqb p x) f (factor_in x ps fs) s))
+      | inr s ↦ ap₂ bit_xor (ap (mul f) (z p (at_head p ps) (eqb-false p x s)) ∙ mul_zero f q.small)
+          (sum_at x ps fs d (omega arith) q.rest parts.1 h (λ k g. z k (further k p ps g)))
+          ∙ xor_zero_l (mul (factor_in x ps fs) (d x)) ∙ ap (λ g. mul g (d x)) (sym (cond-false (eqb p x) f (factor_in x ps fs) s))
+    ]

@@ -1,4 +1,4 @@
-use Rattle.std.proofs.Common.{◌≡◌, ℕ, ◌<◌, eqb, sym, ap, ◌∙◌, lit<, rules, tests}
+use Rattle.std.proofs.Common.{◌≡◌, ℕ, ◌<◌, eqb, sym, ap, ◌∙◌, rules, tests}
 use mathlib.Core.Path.{subst⁻¹}
 use Rattle.std.specs.Option.{option_map, option_map_or}
 use Rattle.std.proofs.lemmas.Iterator.{YieldsList-from_slice}
@@ -20,21 +20,16 @@ found c =
     ∙ factor_found x row
     ∙ sym (factor_of_is c.args.row x ∙ ap (λ row. factor_in x (places_in row) (factors_in row)) h.1)
 
-below : (r x f : ℕ) → f ≡ factor_of bcnav3 r x → f < 64
-below r x f e = subst⁻¹ (λ (k : ℕ). k < 64) e (factor_of_lt r x)
-
 pub returns-in-Some-find : goal.returns-in-Some-find
 returns-in-Some-find c =
     let e = rw c.in-Some-find.is at (found (goal.at.returns-in-Some-find c).After-find) in
-    record { same = e; below = below c.args.row c.args.place _ e }
+    record { same = e; below = subst⁻¹ (λ (f : ℕ). f < 64) e (factor_of_lt c.args.row c.args.place) }
 
-pub returns-in-None : goal.returns-in-None
-returns-in-None c =
-    let e = rw c.in-None.is at (found (goal.at.returns-in-None c).After-find) in
-    record { same = e; below = lit< tt }
+pub returns-in-None-clause-same : goal.returns-in-None-clause-same
+returns-in-None-clause-same c = rw c.in-None.is at (found (goal.at.returns-in-None-clause-same c).After-find)
 
-pub returns-in_default : goal.returns-in_default
+pub returns-in_default-clause-same : goal.returns-in_default-clause-same
 unfolding factor_in
-returns-in_default c =
+returns-in_default-clause-same c =
     let h = row_missing c.rows.result.now c.args.row c.get.result c.rows.ensures c.get.ensures.lookup c.in_default.is in
-    record { same = sym (factor_of_is c.args.row c.args.place ∙ ap (λ row. factor_in c.args.place (places_in row) (factors_in row)) h); below = lit< tt }
+    sym (factor_of_is c.args.row c.args.place ∙ ap (λ row. factor_in c.args.place (places_in row) (factors_in row)) h)

@@ -1,4 +1,4 @@
-use Rattle.std.proofs.Common.{[], sym, ap, ◌∙◌, lit<}
+use Rattle.std.proofs.Common.{[], sym, ap, ◌∙◌}
 use Rattle.std.proofs.lemmas.List.Elements.{Contains-get_or}
 use Rattle.parity.specs.Code.{weighted, sym_at}
 use Rattle.parity.specs.Table.{rows, places_in, factors_in}
@@ -10,18 +10,15 @@ sum-requires c =
     let h = row_got c.rows.result.now c.args.row c.get.result c.in-Some.row c.rows.ensures c.get.ensures.lookup c.in-Some.is in
     rw h.1 at (Contains-get_or rows c.args.row [] h.0)
 
-pub returns-in-Some : goal.returns-in-Some
-returns-in-Some c =
+pub returns-in-Some-clause-same : goal.returns-in-Some-clause-same
+returns-in-Some-clause-same c =
     let w = c.args.self.now.bytes in
     let h = row_got c.rows.result.now c.args.row c.get.result c.in-Some.row c.rows.ensures c.get.ensures.lookup c.in-Some.is in
-    record {
-      same = c.sum.ensures.same ∙ sym (row_sum_is c.args.row w ∙ ap (λ row. weighted (places_in row) (factors_in row) (sym_at w)) h.1);
-      below = c.sum.ensures.below;
-    }
+    c.sum.ensures.same ∙ sym (row_sum_is c.args.row w ∙ ap (λ row. weighted (places_in row) (factors_in row) (sym_at w)) h.1)
 
-pub returns-in-None : goal.returns-in-None
+pub returns-in-None-clause-same : goal.returns-in-None-clause-same
 unfolding weighted
-returns-in-None c =
+returns-in-None-clause-same c =
     let w = c.args.self.now.bytes in
     let h = row_missing c.rows.result.now c.args.row c.get.result c.rows.ensures c.get.ensures.lookup c.in-None.is in
-    record { same = sym (row_sum_is c.args.row w ∙ ap (λ row. weighted (places_in row) (factors_in row) (sym_at w)) h); below = lit< tt }
+    sym (row_sum_is c.args.row w ∙ ap (λ row. weighted (places_in row) (factors_in row) (sym_at w)) h)

@@ -1,4 +1,4 @@
-use Rattle.std.proofs.Common.{◌≡◌, ℕ, ◌<◌, ◌-◌, get_or, [], List, ap, ◌∙◌, ap₂, arith, lit<}
+use Rattle.std.proofs.Common.{◌≡◌, ℕ, ◌<◌, ◌-◌, ◌∙◌, ap₂, arith, lit<}
 use mathlib.Core.Path.{subst⁻¹}
 use lib.Bits.{bit_xor}
 use Rattle.gf64.specs.Field.{mul}
@@ -19,9 +19,9 @@ term-requires-2 c =
     let t = turning c.args.turn.now c.requires.in_ring in
     rw c.rows.ensures (place_lt c.args.turn.now.0 1 t.row (lit< tt), factor_lt c.args.turn.now.0 1 t.row (lit< tt))
 
-pub returns : goal.returns
+pub returns-clause-symbol : goal.returns-clause-symbol
 unfolding turned message_sum
-returns c =
+returns-clause-symbol c =
     let word = c.args.word.now in
     let w : ℕ → ℕ = sym_at word.bytes in
     let p = c.args.turn.now in
@@ -31,14 +31,14 @@ returns c =
     let low : m < 64 = subst⁻¹ (λ (x : ℕ). x < 64) here (message_sum_lt w word.small p.0 t.row) in
     let before = rw c.rows.ensures at c.product.ensures.same in
     let back = rw c.rows.ensures at c.inverse.ensures.same in
-    record {
-      place = ap (λ (t : List (List (ℕ × ℕ))). (get_or (get_or t p.0 []) (5 - p.1) (0, 0)).0) c.rows.ensures;
-      symbol =
-          c.product-2.ensures.same c.inverse.ensures.below (xor_small m c.product.result low c.product.ensures.below)
-          ∙ ap₂ mul (back (factor_lt p.0 (5 - p.1) t.row (omega arith)))
-          (ap₂ bit_xor here (before (factor_lt p.0 p.1 t.row (omega arith)) c.requires.bound));
-      below = (rw c.rows.ensures (place_lt p.0 (5 - p.1) t.row (omega arith)), c.product-2.ensures.below);
-    }
+    c.product-2.ensures.same c.inverse.ensures.below (xor_small m c.product.result low c.product.ensures.below)
+    ∙ ap₂ mul (back (factor_lt p.0 (5 - p.1) t.row (omega arith))) (ap₂ bit_xor here (before (factor_lt p.0 p.1 t.row (omega arith)) c.requires.bound))
+
+pub returns-clause-below : goal.returns-clause-below
+returns-clause-below c =
+    let p = c.args.turn.now in
+    let t = turning p c.requires.in_ring in
+    (rw c.rows.ensures (place_lt p.0 (5 - p.1) t.row (omega arith)), c.product-2.ensures.below)
 
 pub bounds-rows-row : goal.bounds-rows-row
 bounds-rows-row c = (turning c.args.turn.now c.requires.in_ring).row

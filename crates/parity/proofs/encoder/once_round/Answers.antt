@@ -1,4 +1,4 @@
-use Rattle.std.proofs.Common.{◌≡◌, ℕ, ◌<◌, length, sym, ap, ◌∙◌, add-one, arith, lit<}
+use Rattle.std.proofs.Common.{ℕ, ◌<◌, length, sym, ap, ◌∙◌, add-one, arith, lit<}
 use Rattle.std.proofs.lemmas.List.Elements.{Contains-get_or}
 use Rattle.parity.specs.Code.{sym_at}
 use Rattle.parity.specs.Ring.{next, ring, run}
@@ -19,8 +19,3 @@ loop-turn-preserved c =
     let k : ℕ = c.loop-turn.turn-index in
     let e = rw c.ring-turn-items.ensures at c.next.ensures.symbol in
     (c.next.ensures.below.1, e ∙ ap (next k w) c.loop-turn.invariant.1 ∙ sym (run_suc w 0 k) ∙ ap (run w 0) (sym (add-one k)))
-
-pub returns : goal.returns
-returns c =
-    let done : c.loop-turn.turn-index ≡ 81 = omega arith in
-    record { same = c.loop-turn.invariant.1 ∙ ap (run (sym_at c.args.word.now.bytes) 0) done; below = c.loop-turn.invariant.0 }
