@@ -92,7 +92,7 @@ fn frame_of(heap: Global, said: &str) -> Result<[u8; 125], SourceFault> {
     let second: u32 = take(&mut entries, "second")?;
     let mut symbols = [0u8; 162];
     ask_start(symbols.len(), number, second)?;
-    let of = MessageType::from_number(number).ok_or(WriterFault::UnknownType(number))?;
+    let of = MessageType::try_from(number).map_err(|fault| WriterFault::UnknownType(fault.0))?;
     let mut draft = start(&mut symbols, number, second);
     for_each_kind(
         of,
