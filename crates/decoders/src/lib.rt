@@ -26,6 +26,7 @@ pub trait Decoder {
     ///
     /// A buffer that is not 162 bytes and levels that are not 972 legal ones are refused, and nothing else is. Asking, refused or
     /// not, leaves the rule as it was.
+    // A yes or no and a lent buffer, and no Option of a word: the caller of the interface lends the memory.
     fn ask(&mut self, levels: &[f32], word: &mut [u8]) -> Result<bool, AskFault>
         ensures answer { result ≡ answered (ask_fault levels.now (length word.old)) (rule self.old levels.now) }
         ensures buffer { word.new ≡ left (ask_fault levels.now (length word.old)) (rule self.old levels.now) word.old }

@@ -1,10 +1,14 @@
 -- The chunks of a list, and the array that `from_fn` makes of a list with a closure that changes nothing.
-use Rattle.std.proofs.Common.{◌≡◌, ℕ, zero, suc, ◌+◌, ◌*◌, ◌<◌, ◌≤◌, List, [], map, length, get_or, drop, subst, sym, ap, ◌∙◌, inl, inr, arith}
+use Rattle.std.proofs.Common.{◌≡◌, ℕ, zero, suc, ◌+◌, ◌*◌, ◌<◌, ◌≤◌, List, [], map, length, get_or, drop, subst, sym, refl, ap, ◌∙◌, inl, inr, arith}
 use denote.Param.Members.{Mut, Called}
 use Rattle.std.proofs.lemmas.Bool.{cases_eq}
 use Rattle.std.proofs.lemmas.List.{ext_get_or, get_or-drop, get_or-map, get_or-take, length-map}
 use Rattle.std.specs.Array.{IsFromFnResult, IsFromFnResultFrom}
 use Rattle.std.specs.Simd.{first_chunks}
+
+pub length_chunks : {X : Type 0} (n k : ℕ) (xs : List X) → length (first_chunks n k xs) ≡ k
+length_chunks n zero xs = refl
+length_chunks n (suc k) xs = ap suc (length_chunks n k (drop n xs))
 
 -- element j of chunk i
 pub in_chunk : {X : Type 0} (n k i j : ℕ) (xs : List X) (d : X) → i < k → j < n

@@ -1,24 +1,14 @@
 -- The hard decision, its bits and its symbols.
-use Rattle.std.proofs.Common.{◌≡◌, ℕ, zero, suc, ◌+◌, ◌*◌, ◌/◌, ◌%◌, ◌<◌, List, [], ◌∷◌, map, length, get_or, refl, ap, ◌∙◌, arith, lit<}
+use Rattle.std.proofs.Common.{◌≡◌, ℕ, zero, suc, ◌+◌, ◌*◌, ◌/◌, ◌%◌, ◌<◌, List, [], ◌∷◌, map, length, get_or, sym, refl, ap, ◌∙◌, arith, lit<}
 use lib.Ieee.{Float}
+use Rattle.std.proofs.lemmas.List.{length-map}
 use Rattle.std.specs.Simd.{first_chunks}
 use Rattle.bits.specs.Bits.{bits_of}
 use Rattle.parity.specs.Code.{SymbolList}
 use Rattle.levels.specs.Hard.{hard, six, symbol_at}
 use Rattle.levels.specs.Levels.{bit}
+use Rattle.levels.proofs.Chunks.{length_chunks}
 use Rattle.levels.proofs.Means.{bit_below}
-
-length_hard : (n : ℕ) (xs : List Float) → length xs ≡ 6 * n → length (hard xs) ≡ n
-unfolding hard
-length_hard zero [] h = refl
-length_hard zero (a ∷ xs) h = absurd (omega arith)
-length_hard (suc n) [] h = absurd (omega arith)
-length_hard (suc n) (a ∷ []) h = absurd (omega arith)
-length_hard (suc n) (a ∷ b ∷ []) h = absurd (omega arith)
-length_hard (suc n) (a ∷ b ∷ c ∷ []) h = absurd (omega arith)
-length_hard (suc n) (a ∷ b ∷ c ∷ d ∷ []) h = absurd (omega arith)
-length_hard (suc n) (a ∷ b ∷ c ∷ d ∷ e ∷ []) h = absurd (omega arith)
-length_hard (suc n) (a ∷ b ∷ c ∷ d ∷ e ∷ f ∷ xs) h = ap suc (length_hard n xs (omega arith))
 
 -- each six levels make a symbol
 pub hard_sixes : (n : ℕ) (xs : List Float) → length xs ≡ 6 * n → map (λ s. symbol_at s 0) (first_chunks 6 n xs) ≡ hard xs
@@ -32,6 +22,9 @@ hard_sixes (suc n) (a ∷ b ∷ c ∷ []) h = absurd (omega arith)
 hard_sixes (suc n) (a ∷ b ∷ c ∷ d ∷ []) h = absurd (omega arith)
 hard_sixes (suc n) (a ∷ b ∷ c ∷ d ∷ e ∷ []) h = absurd (omega arith)
 hard_sixes (suc n) (a ∷ b ∷ c ∷ d ∷ e ∷ f ∷ xs) h = ap (λ l. six a b c d e f ∷ l) (hard_sixes n xs (omega arith))
+
+length_hard : (n : ℕ) (xs : List Float) → length xs ≡ 6 * n → length (hard xs) ≡ n
+length_hard n xs h = ap length (sym (hard_sixes n xs h)) ∙ length-map (first_chunks 6 n xs) (λ s. symbol_at s 0) ∙ length_chunks 6 n xs
 
 -- ---- bit by bit
 

@@ -1,35 +1,19 @@
 -- What the comparisons of a level say of its number.
-use Rattle.std.proofs.Common.{◌≡◌, ℕ, zero, suc, ◌+◌, ◌*◌, ◌<◌, Bool, true, false, cond, ◌&&◌, ◌||◌, eqb, ltb, leb, ℤ, pos, Decides, sym, refl, ◌∙◌, inl, inr, true≢false, mul-pos, mul-one, arith, lit<}
+use Rattle.std.proofs.Common.{◌≡◌, ℕ, zero, suc, ◌+◌, ◌*◌, ◌<◌, Bool, true, false, ◌&&◌, ◌||◌, eqb, ltb, leb, ℤ, pos, Decides, sym, refl, ◌∙◌, true≢false, mul-pos, mul-one, arith, lit<}
 use lib.Ieee.{Float, nan, inf, fin, up, down, le, lt}
 use lib.Ieee.Fits.{down_pos, up_pos}
-use Rattle.std.proofs.lemmas.Bool.{cases_order, lt-ltb, le-ltb, eq-eqb, ne_eqb, le-leb, lt-leb, leb-true}
+use Rattle.std.proofs.Math.Bool.{and-true}
+use Rattle.std.proofs.lemmas.Bool.Decides.{nat_tests}
+use Rattle.std.proofs.lemmas.Bool.{cond_both, lt-ltb, le-ltb, le-leb, leb-true}
 use Rattle.std.specs.Float.{float_with_sign}
 use Rattle.levels.specs.Levels.{bit, legal, Negative, WithinFour}
 
 -- a < b or a = b, as comparisons of floats have it
 pub at_most : (a b : ℕ) → (ltb a b || (eqb a b && true)) ≡ leb a b
-at_most a b =
-    elim (cases_order a b) [
-      | inl e ↦ rw (le-ltb a b (omega arith), eq-eqb a b e, le-leb a b (omega arith))
-      | inr o ↦ elim o [
-        | inl l ↦ rw (lt-ltb a b l, le-leb a b (omega arith))
-        | inr l ↦ rw (le-ltb a b (omega arith), ne_eqb a b (λ e. omega arith), lt-leb a b l)
-      ]
-    ]
+at_most a b = grind (arith, nat_tests)
 
 same_eqb : (a b : ℕ) → eqb a b ≡ eqb b a
-same_eqb a b =
-    elim (cases_order a b) [
-      | inl e ↦ eq-eqb a b e ∙ sym (eq-eqb b a (sym e))
-      | inr o ↦ elim o [
-        | inl l ↦ ne_eqb a b (λ e. omega arith) ∙ sym (ne_eqb b a (λ e. omega arith))
-        | inr l ↦ ne_eqb a b (λ e. omega arith) ∙ sym (ne_eqb b a (λ e. omega arith))
-      ]
-    ]
-
-and_true : (b : Bool) → (b && true) ≡ b
-and_true true = refl
-and_true false = refl
+same_eqb a b = grind (arith, nat_tests)
 
 legal_fin : (s : Bool) (m : ℕ) (e : ℤ) → legal (fin s m e) ≡ leb (m * up e) (4 * down e)
 unfolding le legal
@@ -38,7 +22,7 @@ legal_fin false m e =
     rw (mul-one (m * up e), lt-ltb 0 (4 * down e + m * up e) p) (at_most (m * up e) (4 * down e))
 legal_fin true m e =
     let p : 0 < m * up e + 4 * down e = omega (arith, down_pos e) in
-    rw (mul-one (m * up e), lt-ltb 0 (m * up e + 4 * down e) p, and_true (ltb (m * up e) (4 * down e) || (eqb (4 * down e) (m * up e) && true)), same_eqb (4 * down e) (m * up e)) (at_most (m * up e) (4 * down e))
+    rw (mul-one (m * up e), lt-ltb 0 (m * up e + 4 * down e) p, and-true (ltb (m * up e) (4 * down e) || (eqb (4 * down e) (m * up e) && true)), same_eqb (4 * down e) (m * up e)) (at_most (m * up e) (4 * down e))
 
 size_fin : (m : ℕ) (e : ℤ) → le (fin false m e) (fin false 1 (pos 2)) ≡ leb (m * up e) (4 * down e)
 unfolding le
@@ -62,11 +46,7 @@ legal_within (fin s m e) =
 
 pub bit_below : (x : Float) → bit x < 2
 unfolding bit
-bit_below x = go (lt x (fin false 0 (pos 0)))
-  where
-    go : (b : Bool) → cond b 1 0 < 2
-    go true = lit< tt
-    go false = lit< tt
+bit_below x = cond_both (lt x (fin false 0 (pos 0))) 1 0 (λ n. n < 2) (λ e. lit< tt) (λ e. lit< tt)
 
 pub bit_negative : (x : Float) → Negative x → bit x ≡ 1
 unfolding bit lt

@@ -62,7 +62,7 @@ pub fn examine(levels: &[f32], count: usize) -> Result<(), LevelFault>
     }
 }
 
-/// The levels of a word: 972 legal ones.
+/// The levels of a word, refused where they are not 972 legal ones.
 pub fn word_levels(levels: &[f32]) -> Result<&[f32; 972], LevelFault>
     ensures { OkUnless (level_fault 972 levels.now) (λ xs. xs.now ≡ levels.now) result }
 {

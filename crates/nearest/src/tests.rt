@@ -32,10 +32,7 @@ impl Decoder for Fixed {
 /// Four levels that are not sure, and after them bits 0.
 fn levels() -> [f32; 972] {
     let mut levels = [1.0; 972];
-    levels[0] = 0.8;
-    levels[1] = -0.6;
-    levels[2] = -0.2;
-    levels[3] = -0.8;
+    levels[..4].copy_from_slice(&[0.8, -0.6, -0.2, -0.8]);
     levels
 }
 
@@ -47,15 +44,12 @@ fn word_of(symbol: u8) -> Result<Word, SymbolFault> {
 }
 
 /// The sum as it would be with a fused multiply-add.
+// Made without the crate `scores`, which is tried here.
 fn fused_sum(levels: &[f32; 972], word: &Word) -> f32 {
     let mut sum = 0.0;
-    for i in 0..972usize {
+    for (i, level) in levels.iter().enumerate() {
         let bit = (word.bytes()[i / 6] >> (5 - i % 6)) % 2;
-        let d = if bit == 1 {
-            levels[i] + 1.0
-        } else {
-            levels[i] - 1.0
-        };
+        let d = if bit == 1 { *level + 1.0 } else { *level - 1.0 };
         sum = d.mul_add(d, sum);
     }
     sum

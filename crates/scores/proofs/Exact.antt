@@ -1,5 +1,5 @@
 -- Against whole eighths the score is exact.
-use Rattle.std.proofs.Common.{◌≡◌, ℕ, suc, ◌+◌, ◌*◌, ◌^◌, ◌<◌, ◌≤◌, max, Bool, true, false, cond, eqb, List, [], ◌∷◌, length, ℤ, nat_abs, IfOk, Some, None, Ok, Err, fold, Option, Result, sym, refl, subst, arith, lit<, MatchResult}
+use Rattle.std.proofs.Common.{◌≡◌, ℕ, suc, ◌+◌, ◌*◌, ◌^◌, ◌<◌, ◌≤◌, max, Bool, true, false, cond, eqb, List, [], ◌∷◌, length, ℤ, nat_abs, IfOk, Some, None, Ok, Err, fold, Option, Result, sym, refl, subst, arith, lit<}
 use lib.Ieee.{Float, binary32, add}
 use lib.Ieee.Exact.{HasValue}
 use Rattle.std.proofs.lemmas.Bool.{eqb-true}
@@ -10,7 +10,7 @@ use Rattle.parity.specs.Bytes.{symbol_fault}
 use Rattle.parity.specs.declared.SymbolFault.{SymbolFault}
 use Rattle.parity.specs.declared.SymbolFault.TheVariants.{Length}
 use Rattle.levels.proofs.Faults.{legal_levels, length_levels}
-use Rattle.levels.specs.Faults.{level_fault, LegalBelow}
+use Rattle.levels.specs.Faults.{level_fault, LegalBelow, OkUnless}
 use Rattle.levels.specs.declared.fault.LevelFault.{LevelFault}
 use Rattle.scores.specs.Faults.{in_turn, score_fault}
 use Rattle.scores.specs.Scored.{score_of, squares}
@@ -66,8 +66,8 @@ largest_exact (p ∷ ps) (n ∷ ns) m a e v = largest_exact ps ns (float_max m p
 passed : (b : Bool) (o : Option LevelFault) (p : Option SymbolFault) → cond b (in_turn o p) (Some (Symbols Length)) ≡ None
     → (b ≡ true) × (o ≡ None)
 passed true None p e = (refl, refl)
-passed true (Some f) p e = let z : ◌≡◌ {A = ℕ} 0 1 = cc in absurd (omega arith)
-passed false o p e = let z : ◌≡◌ {A = ℕ} 0 1 = cc in absurd (omega arith)
+passed true (Some f) p e = absurd (cc)
+passed false o p e = absurd (cc)
 
 score_exact : (xs : List Float) (w : List ℕ) → score_fault xs w ≡ None → Exact xs w (score_of xs w)
 score_exact xs w e =
@@ -82,6 +82,6 @@ score_exact xs w e =
     }
 
 pub exact_from_cases : (xs : List Float) (w : List ℕ) (r : Result Score ScoreFault)
-    → MatchResult r (λ s. (s ≡ score_of xs w) × (score_fault xs w ≡ None)) (λ e. score_fault xs w ≡ Some e) → IfOk r (Exact xs w)
+    → OkUnless (score_fault xs w) (λ s. s ≡ score_of xs w) r → IfOk r (Exact xs w)
 exact_from_cases xs w (Ok s) h = subst (Exact xs w) (sym h.0) (score_exact xs w h.1)
 exact_from_cases xs w (Err e) h = tt

@@ -6,7 +6,8 @@ use lib.Ieee.Exact.{HasValue}
 use lib.Ieee.Fits.{down_pos}
 use lib.Ieee.Order.{transfer}
 use Rattle.levels.proofs.Means.{at_most}
-use Rattle.std.proofs.lemmas.Bool.{cases_lt, le-leb, le-ltb, lt-leb, lt-ltb}
+use Rattle.std.proofs.lemmas.Bool.Decides.{nat_tests}
+use Rattle.std.proofs.lemmas.Bool.{cases_lt, le-leb, lt-leb}
 use Rattle.std.specs.Float.{float_max}
 
 -- x / de is a / c, and y / dd is b / c
@@ -33,11 +34,7 @@ le_values (fin false m e) (fin false n d) a b c C v w =
     ∙ same_order (m * up e) (n * up d) (down e) (down d) a b c C (down_pos e) (down_pos d) v.1 w.1
 
 not_le : (a b : ℕ) → ltb a b ≡ not (leb b a)
-not_le a b =
-    elim (cases_lt a b) [
-      | inl l ↦ lt-ltb a b l ∙ ap not (sym (lt-leb b a l))
-      | inr l ↦ le-ltb a b l ∙ ap not (sym (le-leb b a l))
-    ]
+not_le a b = grind (arith, nat_tests)
 
 pub lt_values : (x y : Float) (a b c : ℕ) → 0 < c → HasValue x false a c → HasValue y false b c → lt x y ≡ ltb a b
 unfolding lt

@@ -49,6 +49,7 @@ fn distance(level: f32, bit: u8) -> f32
 }
 
 /// The larger of two numbers, and the other one where one is no number.
+// Not `f32::max`, which does not say which of two zeros it gives.
 fn larger(a: f32, b: f32) -> f32
     ensures { result ≡ float_max a b }
 {

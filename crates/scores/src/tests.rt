@@ -2,17 +2,16 @@
 use crate::fault::ScoreFault;
 use crate::{Score, score_bytes};
 use levels::fault::LevelFault;
+use std::array;
 use std::test::Fail;
 
 /// The levels of size 1 that the bits of a word are sent as.
+// Made without `word_bit`, which is tried here.
 fn sent(word: &[u8; 162]) -> [f32; 972] {
-    let mut levels = [1.0; 972];
-    for (i, level) in levels.iter_mut().enumerate() {
-        if (word[i / 6] << (i % 6)) & 32 != 0 {
-            *level = -1.0;
-        }
-    }
-    levels
+    array::from_fn(|i| match (word[i / 6] << (i % 6)) & 32 {
+        0 => 1.0,
+        _ => -1.0,
+    })
 }
 
 #[test]

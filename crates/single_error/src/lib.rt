@@ -18,6 +18,7 @@ use decoders::fault::AskFault;
 use decoders::{Decoder, give, hard_decision_for};
 
 /// Whether a code word was found, and how many changes of a symbol were tried for it.
+// A bool, and no Option: the number counts where nothing is found too, and the word goes into the lent buffer.
 #[derive(Clone, Copy)]
 pub struct Trial {
     pub found: bool,

@@ -3,7 +3,8 @@ use Rattle.std.proofs.Common.{◌≡◌, ℕ, zero, suc, ◌+◌, ◌-◌, ◌*�
 use mathlib.Core.Path.{subst⁻¹}
 use lib.Ieee.{Float, up, down, is_nan, le, lt}
 use lib.Ieee.Fits.{down_pos}
-use Rattle.std.proofs.lemmas.Bool.{ltb-true, ltb-false, lt-ltb, le-ltb, eq-eqb, ne_eqb, cases_Bool, cases_eq, cases_order, both_ways, cond_both, not-true, not-false}
+use Rattle.std.proofs.lemmas.Bool.Decides.{nat_tests}
+use Rattle.std.proofs.lemmas.Bool.{ltb-true, ltb-false, le-ltb, cases_Bool, cases_eq, both_ways, cond_both, not-true, not-false}
 use Rattle.std.specs.Float.{float_min}
 use Rattle.weakness.specs.Weakness.{lower_first, weakest_below, with_place, Before, Size, Weakest, number}
 
@@ -45,16 +46,7 @@ least_either x y P px py = cond_both (le x y || is_nan y) x y P (λ e. px) (λ e
 
 at_most : (x y : Float) → Size x → Size y → (le x y || is_nan y) ≡ not (lt y x)
 unfolding is_nan le lt
-at_most _ _ (number m e) (number n d) =
-    let a : ℕ = m * up e * down d in
-    let b : ℕ = n * up d * down e in
-    elim (cases_order a b) [
-      | inl q ↦ rw (le-ltb a b (omega arith), eq-eqb a b q, le-ltb b a (omega arith))
-      | inr o ↦ elim o [
-        | inl l ↦ rw (lt-ltb a b l, le-ltb b a (omega arith))
-        | inr l ↦ rw (le-ltb a b (omega arith), ne_eqb a b (λ q. omega arith), lt-ltb b a l)
-      ]
-    ]
+at_most _ _ (number m e) (number n d) = grind (arith, nat_tests)
 
 not_below_itself : (x : Float) → Size x → lt x x ≡ false
 not_below_itself x h = elim (cases_Bool (lt x x)) [ inl t ↦ below_one_way x x h h t | inr f ↦ f ]

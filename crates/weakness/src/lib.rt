@@ -15,6 +15,7 @@ use levels::word_levels;
 use std::array;
 
 /// The smaller of two numbers, and the other one where one is no number.
+// Not `f32::min`, which does not say which of two zeros it gives.
 fn smaller(a: f32, b: f32) -> f32
     ensures { result ≡ float_min a b }
 {
@@ -70,6 +71,7 @@ fn two_least(weak: &[f32; 162]) -> (usize, usize)
     ensures { Weakest (λ k. get_or weak.now k nan) result.0 result.1 }
 {
     let mut two = if weak[1] < weak[0] { (1, 0) } else { (0, 1) };
+    // An index, since the two so far are places too, and both are looked up.
     for place in 2..162usize {
         two = with_place(weak, two, place);
     }

@@ -1,4 +1,4 @@
-use Rattle.std.proofs.Common.{◌≡◌, false, List, [], ◌∷◌, ◌++◌, fold, sym, ap, ◌∙◌, rules}
+use Rattle.std.proofs.Common.{◌≡◌, false, [], ◌∷◌, fold, sym, ap, ◌∙◌, rules}
 use lib.Ieee.{Float}
 use Rattle.std.proofs.lemmas.Fn.{fold_over, fronts, slice_gives}
 use Rattle.std.proofs.lemmas.List.Sums.{fold-append}
