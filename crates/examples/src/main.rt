@@ -114,14 +114,13 @@ fn compare(rt: &HostRuntime, case: &str) -> anyhow::Result<bool> {
 }
 
 fn compare_all(rt: &HostRuntime) -> anyhow::Result<()> {
-    let mut count = 0u32;
-    let mut right = 0u32;
+    let mut right = 0usize;
     for case in CASES.lines() {
-        count = count.saturating_add(1);
         if compare(rt, case)? {
             right = right.saturating_add(1);
         }
     }
+    let count = CASES.lines().count();
     let proved = known_answers();
     println!(rt; "{right} of {count} words as expected, {proved} known answers proved")?;
     if right == count {

@@ -68,6 +68,7 @@ pub enum TextFault {
     Missing(Name),
 }
 
+// By hand, since a derive would put the error into the variant, and its contract would not say which fault it gives.
 impl From<AllocError> for TextFault {
     ghost from_gives = { λ _ r. r ≡ NoMemory };
 
