@@ -70,6 +70,7 @@ impl EachKind for Blocks<'_> {
             Err(fault) => return refuse(self.rt, fault.refusal()),
         };
         let block = K::NAME;
+        // i is the number of a field, which the kind is asked by, and no index.
         for i in 0..fields(K::PLACE.part).len() {
             let text = K::field_text(i);
             let name = text.name;

@@ -120,6 +120,7 @@ fn print_hexadecimal(rt: &HostRuntime, frame: &[u8]) -> anyhow::Result<()> {
 fn write_levels(rt: &HostRuntime, frame: &[u8]) -> anyhow::Result<()> {
     let mut levels = Vec::new(rt.alloc());
     for byte in frame {
+        // i is how far a bit is shifted, and no index.
         for i in (0..8u32).rev() {
             let level: f32 = if *byte >> i & 1 == 0 { 1.0 } else { -1.0 };
             levels.extend_from_slice(&level.to_le_bytes())?;

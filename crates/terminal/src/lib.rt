@@ -73,3 +73,6 @@ pub fn print_refusal<R: Eprint + Print>(rt: &R, program: &str, refusal: Refusal)
     println!(rt; "{refusal}")?;
     eprintln!(rt; "{program}: {words}")
 }
+
+#[cfg(test)]
+mod tests;

@@ -82,6 +82,7 @@ impl Entries {
     /// It has no contract, since no definition says how a block's fields are called; each is taken by `take_field`.
     pub fn record<K: Block + Described>(&mut self) -> Result<K::Record, TextFault> {
         let mut found = K::zero();
+        // i is the number of a field, which the kind is asked by, and no index.
         for i in 0..fields(K::PLACE.part).len() {
             let count = self.take_field(K::NAME, K::field_text(i).name)?;
             K::set_count(&mut found, i, count);

@@ -11,6 +11,7 @@ use std::env;
 use std::fs::File;
 use std::io::Read;
 use std::num::f32_to_bits_with_nan;
+use terminal::read_at_most;
 
 const HELP: &str = "usage: weigh DIGITS < LEVELS
        weigh --file WORD < LEVELS
@@ -96,8 +97,7 @@ fn refuse(rt: &HostRuntime, fault: ScoreFault, levels: usize, bytes: usize) -> a
 }
 
 fn answer(rt: &HostRuntime, word: &[u8]) -> anyhow::Result<()> {
-    let mut bytes = Vec::new(rt.alloc());
-    rt.stdin().take(LEVEL_LIMIT).read_to_end(&mut bytes)?;
+    let bytes = read_at_most(rt, LEVEL_LIMIT)?;
     if bytes.len() % 4 != 0 {
         return Err(anyhow!("the input ends within a level"));
     }
