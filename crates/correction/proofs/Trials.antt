@@ -1,5 +1,5 @@
 -- The trials of single changes, and that a word has at most one code word near it.
-use Rattle.std.proofs.Common.{◌≡◌, ℕ, zero, suc, ◌+◌, ◌*◌, ◌/◌, ◌%◌, ◌<◌, ◌≤◌, List, get_or, set, Some, None, Option, sym, refl, ap, ◌∙◌, subst, ap₂, inl, inr, arith, lit<, lit≤}
+use Rattle.std.proofs.Common.{◌≡◌, ℕ, zero, suc, ◌+◌, ◌*◌, ◌/◌, ◌%◌, ◌<◌, List, get_or, set, Some, None, Option, sym, refl, ap, ◌∙◌, subst, ap₂, inl, inr, arith, lit<, lit≤}
 use mathlib.Core.Path.{subst⁻¹}
 use lib.Bits.{bit_xor}
 use Rattle.std.proofs.lemmas.List.{length-set, set-get_or, set_past}
@@ -82,22 +82,6 @@ stops_only w s n (Some v) h =
 -- at once where w is a code word
 pub stops_itself : (w : List ℕ) → Codeword bcnav3 w → Stops w 0 (Some w)
 stops_itself w c = record { most = lit≤ tt; first = λ k h. absurd (omega arith); is = sym (trial_zero w); codeword = c }
-
-pub stops_most : (w : List ℕ) (n : ℕ) (o : Option (List ℕ)) → Stops w n o → n ≤ 10206
-stops_most w n None h = omega (arith, h.1)
-stops_most w n (Some v) h = h.most
-
--- and only there
-pub stops_zero : (w : List ℕ) (n : ℕ) (o : Option (List ℕ)) → Stops w n o → (n ≡ 0 → Codeword bcnav3 w) × (Codeword bcnav3 w → n ≡ 0)
-stops_zero w n None h =
-    (λ e. absurd (omega (arith, h.1)), λ c. absurd (h.0 0 (lit< tt) (subst⁻¹ (Codeword bcnav3) (trial_zero w) c)))
-stops_zero w n (Some v) h = (
-  λ e. subst (Codeword bcnav3) (h.is ∙ ap (trial w) e ∙ trial_zero w) h.codeword,
-  λ c. elim (cases_eq n 0) [
-    | inl e ↦ e
-    | inr e ↦ absurd (h.first 0 (omega arith) (subst⁻¹ (Codeword bcnav3) (trial_zero w) c))
-  ],
-)
 
 pub corrected_only : (w : List ℕ) → SymbolList 162 w → Only (Near bcnav3 w) (corrected w)
 unfolding corrected

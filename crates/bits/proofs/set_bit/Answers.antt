@@ -1,9 +1,6 @@
 use Rattle.std.proofs.Common.{◌/◌, ◌%◌, ◌<◌, get_or, arith, rules}
-use Rattle.bits.proofs.Symbols.{put, put_is, put_lt, put_bit, small_set}
+use Rattle.bits.proofs.Symbols.{put, put_lt, put_bit, small_set}
 use Rattle.bits.proofs.set_bit.Goals as goal
-
-pub overflow_sub-symbols : goal.overflow_sub-symbols
-overflow_sub-symbols c = (put_is (get_or c.args.symbols.now (c.args.k / 6) 0) (c.args.k % 6) c.args.b (omega arith) (omega arith)).0
 
 pub overflow_add-symbols : goal.overflow_add-symbols
 overflow_add-symbols c =

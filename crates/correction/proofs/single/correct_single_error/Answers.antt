@@ -1,30 +1,23 @@
-use Rattle.std.proofs.Common.{◌≡◌, ℕ, List, None, Option, subst}
 use Rattle.parity.specs.Code.{SymbolList}
-use Rattle.parity.specs.Table.{bcnav3}
-use Rattle.parity.specs.declared.Symbols.{Symbols}
 use Rattle.correction.specs.Search.{bytes_of}
-use Rattle.correction.specs.Single.{Near, Stops, corrected}
+use Rattle.correction.specs.Single.{Near, corrected}
+use Rattle.parity.specs.Table.{bcnav3}
 use Rattle.correction.proofs.Found.{only_same}
-use Rattle.correction.proofs.Trials.{corrected_only, one_near, stops_most, stops_only, stops_zero}
+use Rattle.correction.proofs.Trials.{corrected_only, one_near, stops_only}
 use Rattle.correction.proofs.single.correct_single_error.Goals as goal
 
-none_last : (w : List ℕ) (n : ℕ) (o : Option (Symbols 162)) → Stops w n (bytes_of o) → o ≡ None → n ≡ 10206
-none_last w n o h e = (subst (λ q. Stops w n (bytes_of q)) e h).1
-
-pub returns : goal.returns
-returns c =
+pub returns-clause-answer : goal.returns-clause-answer
+returns-clause-answer c =
     let word = c.args.word.now in
     let w = word.bytes in
     let s : SymbolList 162 w = record { long = word.long; small = word.small } in
-    let n = c.search.result.trials in
     let o = bytes_of c.search.result.word in
-    let h = c.search.ensures in
-    let only = stops_only w s n o h in
-    record {
-      answer = only_same (Near bcnav3 w) o (corrected w) only (corrected_only w s);
-      only = only;
-      one = one_near;
-      most = stops_most w n o h;
-      none = none_last w n c.search.result.word h;
-      zero = stops_zero w n o h;
-    }
+    only_same (Near bcnav3 w) o (corrected w) (stops_only w s c.search.result.trials o c.search.ensures) (corrected_only w s)
+
+pub returns-clause-only : goal.returns-clause-only
+returns-clause-only c =
+    let word = c.args.word.now in
+    stops_only word.bytes (record { long = word.long; small = word.small }) c.search.result.trials (bytes_of c.search.result.word) c.search.ensures
+
+pub returns-clause-one : goal.returns-clause-one
+returns-clause-one c = one_near
