@@ -33,8 +33,13 @@ const ASKS: u32 = 1_000;
 
 fn time_check(rt: &HostRuntime) -> anyhow::Result<()> {
     let bytes = read_at_most(rt, 163)?;
+    let mut accepted = 0u32;
     let start = Instant::now(rt)?;
-    let accepted = (0..RUNS).filter(|_| check(&bytes).is_ok()).count();
+    for _ in 0..RUNS {
+        if check(&bytes).is_ok() {
+            accepted = accepted.saturating_add(1);
+        }
+    }
     let mean = start.elapsed(rt)?.as_nanos() / u128::from(RUNS);
     println!(rt; "check: {mean} ns, {accepted} of {RUNS} accepted")?;
     Ok(())
@@ -85,10 +90,15 @@ fn time_asks<D: Decoder>(
     name: &str,
     levels: &[f32; 972],
 ) -> anyhow::Result<()> {
+    // a loop, since as a chain of `filter` and `count` the same calls measure 7 in 100 slower
+    let mut given = 0u32;
     let start = Instant::now(rt)?;
-    let given = (0..ASKS)
-        .filter(|_| decoder.ask(levels, &mut [0; 162]) == Ok(true))
-        .count();
+    for _ in 0..ASKS {
+        let mut word = [0u8; 162];
+        if decoder.ask(levels, &mut word) == Ok(true) {
+            given = given.saturating_add(1);
+        }
+    }
     let mean = start.elapsed(rt)?.as_nanos() / u128::from(ASKS);
     println!(rt; "{name}: {mean} ns, {given} of {ASKS} given")?;
     Ok(())

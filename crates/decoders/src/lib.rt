@@ -4,7 +4,7 @@
 //! legal levels. The trait says what asking then answers and leaves in the buffer, and that is all that a caller knows.
 #![tactic(auto)]
 
-ghost use Rattle.std.specs.Prelude.{◌≡◌, ℕ, List, length, is_some, Some, None, MatchResult, OnOk, Float};
+ghost use Rattle.std.specs.Prelude.{◌≡◌, ℕ, List, length, false, is_some, Some, None, MatchResult, OnOk, Float};
 ghost use Rattle.decoders.specs.Asks.{answered, ask_fault, left, Rule};
 ghost use Rattle.levels.specs.Faults.{level_fault, OkUnless};
 ghost use Rattle.levels.specs.Hard.{hard};
@@ -46,14 +46,18 @@ pub fn hard_decision_for(levels: &[f32], size: usize) -> Result<Word, AskFault>
     Ok(hard_decision(levels)?)
 }
 
-/// Fills the buffer with the word that was found and answers yes; where there is none the answer is no and the buffer stays as it is.
+/// Fills a buffer of 162 bytes with the word that was found and answers yes; where there is none the answer is no and the buffer stays
+/// as it is. So it is for another buffer, which is not asked for.
 pub fn give(found: Option<Word>, word: &mut [u8]) -> bool
-    requires { length word.old ≡ 162 }
-    ensures answer { result ≡ is_some found }
-    ensures buffer { word.new ≡ left None (bytes_of found) word.old }
+    ensures answer { length word.old ≡ 162 → result ≡ is_some found }
+    ensures buffer { length word.old ≡ 162 → word.new ≡ left None (bytes_of found) word.old }
+    ensures other { (length word.old ≡ 162 → ⊥) → (result ≡ false) × (word.new ≡ word.old) }
 {
-    if let Some(codeword) = found {
-        word.copy_from_slice(codeword.bytes());
+    match found {
+        Some(codeword) if word.len() == 162 => {
+            word.copy_from_slice(codeword.bytes());
+            true
+        }
+        _ => false,
     }
-    found.is_some()
 }

@@ -67,7 +67,10 @@ pub fn word_levels(levels: &[f32]) -> Result<&[f32; 972], LevelFault>
     ensures { OkUnless (level_fault 972 levels.now) (λ xs. xs.now ≡ levels.now) result }
 {
     examine(levels, 972)?;
-    levels.as_array().ok_or(LevelFault::Length)
+    let Some(levels) = levels.as_array() else {
+        unreachable()
+    };
+    Ok(levels)
 }
 
 /// The symbol that six levels read as, most significant bit first.
