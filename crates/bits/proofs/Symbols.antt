@@ -38,13 +38,6 @@ pub bits_append : (ss ts : List ℕ) → bits_of (ss ++ ts) ≡ bits_of ss ++ bi
 bits_append [] ts = refl
 bits_append (s ∷ ss) ts = ap (after s) (bits_append ss ts)
 
-pub part_lt : (bs : List ℕ) (b w : ℕ) → AllBelowBase 2 bs → number_from_digits 2 (part bs b w) < 2 ^ w
-part_lt bs b w u =
-    let l : number_from_digits 2 (part bs b w) < 2 ^ length (part bs b w) =
-    number_lt 2 (part bs b w) (All-take _ w (drop b bs) (All-drop _ b bs u)) in
-    let s : length (part bs b w) ≤ w = omega (arith, length-take w (drop b bs)) in
-    omega (arith, pow-le-pow_right {n = 2} (omega arith) s)
-
 -- ---- one symbol more
 
 -- nine symbols have 54 bits

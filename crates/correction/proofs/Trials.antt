@@ -79,10 +79,6 @@ stops_only w s n (Some v) h =
     subst⁻¹ (Near bcnav3 w) h.is (trial_near w n (subst (Codeword bcnav3) h.is h.codeword)) in
     (near, λ u g. one_near bcnav3 sound w u v g near)
 
--- at once where w is a code word
-pub stops_itself : (w : List ℕ) → Codeword bcnav3 w → Stops w 0 (Some w)
-stops_itself w c = record { most = lit≤ tt; first = λ k h. absurd (omega arith); is = sym (trial_zero w); codeword = c }
-
 pub corrected_only : (w : List ℕ) → SymbolList 162 w → Only (Near bcnav3 w) (corrected w)
 unfolding corrected
 corrected_only w s =
