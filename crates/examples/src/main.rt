@@ -8,7 +8,8 @@ use known_answers::known_answers;
 use message::check;
 use parity::Word;
 use std::alloc::{AllocError, Global};
-use terminal::{no_word, run};
+use std::env;
+use terminal::{no_word, on_word};
 
 const HELP: &str = "usage: examples
 
@@ -131,7 +132,8 @@ fn compare_all(rt: &HostRuntime) -> anyhow::Result<()> {
 }
 
 fn main(rt: HostRuntime) -> anyhow::Result<()> {
-    run(&rt, HELP, |word| {
+    let word = env::args(&rt)?.nth(1);
+    on_word(&rt, HELP, word.as_ref().map(|word| word.as_str()), |word| {
         no_word(word)?;
         compare_all(&rt)
     })

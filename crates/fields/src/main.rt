@@ -9,10 +9,11 @@ use layout::{MessageType, fields};
 use message::answer::Header;
 use message::{check, examine};
 use parity::Message;
-use refusal::Refusal;
-use std::fmt;
+use refusal::{InWords, Refusal};
+use std::io::Read;
 use std::num::nearest_i64_to_f64;
-use terminal::{no_word, print_refusal, read_at_most, run};
+use std::{env, fmt};
+use terminal::{no_word, on_word};
 
 const HELP: &str = "usage: fields < MESSAGE
 
@@ -103,7 +104,9 @@ fn show_message(rt: &HostRuntime, header: Header, message: &Message) -> anyhow::
 }
 
 fn refuse(rt: &HostRuntime, refusal: Refusal) -> anyhow::Result<()> {
-    Ok(print_refusal(rt, "fields", refusal)?)
+    let words = InWords(refusal);
+    println!(rt; "{refusal}")?;
+    Ok(eprintln!(rt; "fields: {words}")?)
 }
 
 /// The message of some bytes, with its header. 81 bytes are a message, and anything else is checked as a word.
@@ -125,8 +128,11 @@ fn answer(rt: &HostRuntime, bytes: &[u8]) -> anyhow::Result<()> {
 }
 
 fn main(rt: HostRuntime) -> anyhow::Result<()> {
-    run(&rt, HELP, |word| {
+    let word = env::args(&rt)?.nth(1);
+    on_word(&rt, HELP, word.as_ref().map(|word| word.as_str()), |word| {
         no_word(word)?;
-        answer(&rt, &read_at_most(&rt, LIMIT)?)
+        let mut bytes = Vec::new(rt.alloc());
+        rt.stdin().take(LIMIT).read_to_end(&mut bytes)?;
+        answer(&rt, &bytes)
     })
 }

@@ -8,9 +8,9 @@ use kinds::{EachKind, for_each_kind};
 use layout::MessageType;
 use refusal::Refusal;
 use std::alloc::Global;
-use std::io;
 use std::io::Read;
-use terminal::{run, unknown_word};
+use std::{env, io};
+use terminal::{on_word, unknown_word};
 use text::{Entries, parse};
 use writer::fault::WriterFault;
 use writer::{Draft, ask_start, start};
@@ -174,7 +174,8 @@ impl Output<'_> {
 }
 
 fn main(rt: HostRuntime) -> anyhow::Result<()> {
-    run(&rt, HELP, |word| {
+    let word = env::args(&rt)?.nth(1);
+    on_word(&rt, HELP, word.as_ref().map(|word| word.as_str()), |word| {
         let form = Form::asked_by(word)?;
         Output { rt: &rt, form }.answer()
     })

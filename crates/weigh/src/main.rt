@@ -11,7 +11,6 @@ use std::env;
 use std::fs::File;
 use std::io::Read;
 use std::num::f32_to_bits_with_nan;
-use terminal::read_at_most;
 
 const HELP: &str = "usage: weigh DIGITS < LEVELS
        weigh --file WORD < LEVELS
@@ -97,7 +96,8 @@ fn refuse(rt: &HostRuntime, fault: ScoreFault, levels: usize, bytes: usize) -> a
 }
 
 fn answer(rt: &HostRuntime, word: &[u8]) -> anyhow::Result<()> {
-    let bytes = read_at_most(rt, LEVEL_LIMIT)?;
+    let mut bytes = Vec::new(rt.alloc());
+    rt.stdin().take(LEVEL_LIMIT).read_to_end(&mut bytes)?;
     if bytes.len() % 4 != 0 {
         return Err(anyhow!("the input ends within a level"));
     }

@@ -2,7 +2,10 @@
 #![tactic(auto)]
 
 use message::check;
-use terminal::{no_word, print_refusal, read_at_most, run};
+use refusal::InWords;
+use std::env;
+use std::io::Read;
+use terminal::{no_word, on_word};
 
 const HELP: &str = "usage: wordcheck < WORD
 
@@ -17,15 +20,23 @@ docs/REFUSALS.md lists the numbers, the layers and what a place means.";
 const LIMIT: u64 = 163;
 
 fn answer(rt: &HostRuntime) -> anyhow::Result<()> {
-    let bytes = read_at_most(rt, LIMIT)?;
+    let mut bytes = Vec::new(rt.alloc());
+    rt.stdin().take(LIMIT).read_to_end(&mut bytes)?;
     match check(&bytes) {
-        Ok(header) => Ok(println!(rt; "{header}")?),
-        Err(fault) => Ok(print_refusal(rt, "wordcheck", fault.refusal())?),
+        Ok(header) => println!(rt; "{header}")?,
+        Err(fault) => {
+            let refusal = fault.refusal();
+            let words = InWords(refusal);
+            println!(rt; "{refusal}")?;
+            eprintln!(rt; "wordcheck: {words}")?;
+        }
     }
+    Ok(())
 }
 
 fn main(rt: HostRuntime) -> anyhow::Result<()> {
-    run(&rt, HELP, |word| {
+    let word = env::args(&rt)?.nth(1);
+    on_word(&rt, HELP, word.as_ref().map(|word| word.as_str()), |word| {
         no_word(word)?;
         answer(&rt)
     })

@@ -16,9 +16,6 @@ returns-then-x-eq0 c =
 pub overflow_sub-log : goal.overflow_sub-log
 overflow_sub-log c = omega (arith, log_lt (c.args.a % 64) (omega arith))
 
-pub exp-requires : goal.exp-requires
-exp-requires c = omega (arith, log_lt (c.args.a % 64) (omega arith))
-
 pub returns : goal.returns
 returns c =
     let e : c.exp.result ≡ inv (c.args.a % 64) =

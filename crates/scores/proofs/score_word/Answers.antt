@@ -23,10 +23,6 @@ turn_at xs n i x t =
     let is : (i, x) ≡ (0 + n, get_or (take 972 xs) n x) = t.1 ∙ get_or-enumerate_from 0 (take 972 xs) n (i, x) (omega (arith, length-take 972 xs)) in
     (many, few, ap (λ p. p.0) is ∙ zero-add n, ap (λ p. p.1) is ∙ get_or-take 972 xs n x few ∙ get_or_default xs n x nan many)
 
-pub loop-i-init : goal.loop-i-init
-unfolding of_bits
-loop-i-init c = (refl, refl)
-
 pub loop-i-preserved : goal.loop-i-preserved
 loop-i-preserved c =
     let xs = c.args.levels.now in

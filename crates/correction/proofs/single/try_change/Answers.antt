@@ -4,11 +4,6 @@ use Rattle.correction.proofs.Agree.{altered_twice}
 use Rattle.correction.proofs.Trials.{trial_at}
 use Rattle.correction.proofs.single.try_change.Goals as goal
 
-pub returns-clause-made : goal.returns-clause-made
-returns-clause-made c =
-    c.alter.ensures.same c.requires.change_bound
-    ∙ sym (trial_at c.args.candidate.now.bytes c.args.place c.args.change c.requires.change_nonzero c.requires.change_bound)
-
 pub returns-clause-back : goal.returns-clause-back
 returns-clause-back c =
     let p = c.args.place in let x = c.args.change in

@@ -9,9 +9,3 @@ invariant_of-self g c =
     let w = c.args.self.now in
     let p = c.args.place in
     record { long = length-set w.bytes p _ ∙ w.long; small = set_small w.bytes p _ w.small (xor_small _ _ (w.small p) (omega arith)) }
-
-pub returns-else-place : goal.returns-else-place
-returns-else-place g c =
-    let w = c.args.self.now in
-    let past : length w.bytes ≤ c.args.place = omega (arith, w.long) in
-    record { low = sym (set_past w.bytes c.args.place _ past); same = λ h. sym (set_past w.bytes c.args.place _ past) }
