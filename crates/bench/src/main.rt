@@ -78,6 +78,7 @@ fn time_frame(rt: &HostRuntime) -> anyhow::Result<()> {
 }
 
 /// The levels of a word: +1 for bit 0 and -1 for bit 1.
+// What is measured is given its input by no code of ours.
 fn levels_of(word: &[u8; 162]) -> [f32; 972] {
     array::from_fn(|i| match word[i / 6] >> (5 - i % 6) & 1 {
         0 => 1.0,

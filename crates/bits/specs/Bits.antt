@@ -1,5 +1,5 @@
 -- The bits of a row of six-bit symbols.
-use Rattle.std.specs.Prelude.{ℕ, zero, suc, ◌+◌, ◌/◌, ◌%◌, ◌^◌, List, [], ◌∷◌, ◌++◌, length, take, drop}
+use Rattle.std.specs.Prelude.{ℕ, zero, suc, ◌+◌, ◌/◌, ◌%◌, ◌^◌, ◌<◌, List, [], ◌∷◌, ◌++◌, length, take, drop, slice_index}
 
 -- the six bits of each symbol, most significant first
 abbrev pub bits_of : List ℕ → List ℕ
@@ -18,3 +18,7 @@ pasted d at s = take at d ++ (s ++ drop (at + length s) d)
 abbrev pub spelled : ℕ → ℕ → List ℕ
 spelled zero v = []
 spelled (suc w) v = v / 2 ^ w % 2 ∷ spelled w v
+
+-- a byte below 64 stays below 64
+abbrev pub KeepsSmall : List ℕ → List ℕ → Type 0
+KeepsSmall old new = (k : ℕ) → slice_index old k < 64 → slice_index new k < 64

@@ -4,9 +4,9 @@
 //! most significant first.
 #![tactic(auto)]
 
-ghost use Rattle.std.specs.Prelude.{◌≡◌, ℕ, ◌+◌, ◌-◌, ◌/◌, ◌^◌, ◌<◌, ◌≤◌, length, slice_index, slice_set};
+ghost use Rattle.std.specs.Prelude.{◌≡◌, ℕ, ◌+◌, ◌-◌, ◌/◌, ◌^◌, ◌<◌, ◌≤◌, length, slice_set};
 ghost use Rattle.std.specs.Int.Digits.{number_from_digits};
-ghost use Rattle.bits.specs.Bits.{bits_of, part, pasted, spelled};
+ghost use Rattle.bits.specs.Bits.{bits_of, part, pasted, spelled, KeepsSmall};
 
 /// The number that the bits of the symbols write.
 fn gather(symbols: &[u8]) -> u64
@@ -23,6 +23,7 @@ fn gather(symbols: &[u8]) -> u64
 /// The number that `width` bits from the bit `at` on write, most significant first.
 ///
 /// It is 0 where the message has no such bits, and where they are more than 55.
+// Two numbers and no type of a range, which would have to hold just the bits that there are: these calls take any two.
 pub fn get_bits(symbols: &[u8; 81], at: usize, width: usize) -> u64
     ensures same { width ≤ 55 → at + width ≤ 486 → result ≡ number_from_digits 2 (part (bits_of symbols.now) at width) }
     ensures below { width ≤ 55 → at + width ≤ 486 → result < 2 ^ width }
@@ -40,7 +41,7 @@ pub fn get_bits(symbols: &[u8; 81], at: usize, width: usize) -> u64
 fn set_bit(symbols: &mut [u8], k: usize, b: u8)
     requires { (k / 6 < length symbols.old) × (b < 2) }
     ensures bits { bits_of symbols.new ≡ slice_set (bits_of symbols.old) k b }
-    ensures small { (k : ℕ) → slice_index symbols.old k < 64 → slice_index symbols.new k < 64 }
+    ensures small { KeepsSmall symbols.old symbols.new }
 {
     let shift = 5 - k % 6;
     let s = symbols[k / 6];
@@ -54,7 +55,7 @@ fn set_bit(symbols: &mut [u8], k: usize, b: u8)
 pub fn put_bits(symbols: &mut [u8], at: usize, width: usize, value: u64)
     ensures bits { 81 ≤ length symbols.old → width ≤ 55 → at + width ≤ 486 → bits_of symbols.new ≡ pasted (bits_of symbols.old) at (spelled width value) }
     ensures none { (81 ≤ length symbols.old → width ≤ 55 → at + width ≤ 486 → ⊥) → symbols.new ≡ symbols.old }
-    ensures small { (k : ℕ) → slice_index symbols.old k < 64 → slice_index symbols.new k < 64 }
+    ensures small { KeepsSmall symbols.old symbols.new }
 {
     if symbols.len() < 81 || width > 55 || at > 486 - width {
         return;

@@ -4,8 +4,8 @@
 //! fields; a kind adds its record, and says which count stands where.
 #![tactic(auto)]
 
-ghost use Rattle.std.specs.Prelude.{◌≡◌, ℕ, ◌-◌, ◌^◌, ◌<◌, ◌≤◌, true, false, List, length, take, ℤ, pos, negsuc, ◌≤ℤ◌, is_ok, IfOk, None, Ok, slice_index, slice_index_or, slice_set};
-ghost use Rattle.bits.specs.Bits.{bits_of};
+ghost use Rattle.std.specs.Prelude.{◌≡◌, ℕ, ◌-◌, ◌^◌, ◌<◌, ◌≤◌, true, false, List, length, take, ℤ, pos, negsuc, ◌≤ℤ◌, is_ok, IfOk, None, Ok, slice_index_or, slice_set};
+ghost use Rattle.bits.specs.Bits.{bits_of, KeepsSmall};
 ghost use Rattle.message.specs.Checked.{checked};
 ghost use Rattle.parity.specs.Code.{SymbolList};
 ghost use Rattle.blocks.specs.Held.{held_in, placed_of, zeros};
@@ -46,11 +46,12 @@ pub trait Block {
     ghost made: { List ℤ → Self.Record };
 
     /// The record whose counts are all 0.
+    // By a call in each kind: a bound `Default` would say nothing of the counts.
     fn zero() -> Self::Record
         ensures { counts result ≡ zeros size };
 
-    // By a match in each kind, since a record has a name for each field, and a macro of ours may write no `impl`.
     /// The count of field number `i`; 0 past the last.
+    // By a match in each kind: a record has a name for each field, and a macro for the matches would be as long as they are.
     fn count(of: &Self::Record, i: usize) -> i64
         ensures { result ≡ slice_index_or (counts of.now) i (pos 0) };
 
@@ -71,6 +72,8 @@ fn get_counts<K: Block>(symbols: &[u8; 81]) -> K::Record
 {
     let place = K::PLACE;
     let mut found = K::zero();
+    // The first bit of each field is counted along, here and in the other walks over fields: an iterator that did it would be one
+    // more type, and each walk would still need its invariant.
     let mut at = place.first_bit;
     let all = fields(place.part);
     for (i, field) in all.iter().enumerate() {
@@ -145,7 +148,7 @@ pub fn first_unfit<K: Block>(of: &K::Record) -> Option<usize>
 fn put_counts<K: Block>(of: &K::Record, symbols: &mut [u8])
     requires { (81 ≤ length symbols.old) × (first_unfit (placed_of K.PLACE) (K.counts of.now) ≡ None) }
     ensures bits { bits_of symbols.new ≡ written_over K.PLACE (K.counts of.now) (bits_of symbols.old) }
-    ensures small { (k : ℕ) → slice_index symbols.old k < 64 → slice_index symbols.new k < 64 }
+    ensures small { KeepsSmall symbols.old symbols.new }
 {
     let place = K::PLACE;
     let mut at = place.first_bit;
@@ -164,7 +167,7 @@ pub fn write<K: Block>(of: &K::Record, symbols: &mut [u8]) -> Result<(), BlockFa
     ensures answer { result ≡ write_answer K.PLACE (K.counts of.now) (length symbols.old) }
     ensures written { is_ok result ≡ true → bits_of symbols.new ≡ written_over K.PLACE (K.counts of.now) (bits_of symbols.old) }
     ensures kept { is_ok result ≡ false → symbols.new ≡ symbols.old }
-    ensures small { (k : ℕ) → slice_index symbols.old k < 64 → slice_index symbols.new k < 64 }
+    ensures small { KeepsSmall symbols.old symbols.new }
     ensures back { is_ok result ≡ true → SymbolList 81 (take 81 symbols.old) → is_of K.PLACE.message_type (take 81 symbols.old) ≡ true → read_as K.PLACE K.made (take 81 symbols.new) ≡ Ok of.now }
 {
     if symbols.len() < 81 {

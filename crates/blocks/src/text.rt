@@ -43,7 +43,7 @@ pub trait Described {
     /// The name of the block.
     const NAME: &'static str;
 
-    // A function and no constant slice, since a constant's value can call neither `plain` nor `scaled`.
     /// Field number `i`, and past the last the last.
+    // A function, since a constant slice could call neither `plain` nor `scaled`.
     fn field_text(i: usize) -> FieldText;
 }

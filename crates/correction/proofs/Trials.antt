@@ -1,5 +1,5 @@
 -- The trials of single changes, and that a word has at most one code word near it.
-use Rattle.std.proofs.Common.{◌≡◌, ℕ, zero, suc, ◌+◌, ◌*◌, ◌/◌, ◌%◌, ◌<◌, List, get_or, set, Some, None, Option, sym, refl, ap, ◌∙◌, subst, ap₂, inl, inr, arith, lit<, lit≤}
+use Rattle.std.proofs.Common.{◌≡◌, ℕ, zero, suc, ◌+◌, ◌*◌, ◌/◌, ◌%◌, ◌<◌, List, get_or, set, Some, None, Option, sym, refl, ap, ◌∙◌, subst, ap₂, inl, inr, arith, lit<}
 use mathlib.Core.Path.{subst⁻¹}
 use lib.Bits.{bit_xor}
 use Rattle.std.proofs.lemmas.List.{length-set, set-get_or, set_past}

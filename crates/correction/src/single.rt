@@ -49,6 +49,7 @@ fn search(word: &Word) -> Correction
     let mut candidate = *word;
     let mut found = None;
     let mut trials = 0;
+    // Nested loops left by a label: the form that the project asks for at this search.
     'search: for place in 0..162usize {
         for change in 1..64u8 {
             trials += 1;

@@ -4,9 +4,10 @@
 //! legal levels. The trait says what asking then answers and leaves in the buffer, and that is all that a caller knows.
 #![tactic(auto)]
 
-ghost use Rattle.std.specs.Prelude.{◌≡◌, ℕ, List, length, false, is_some, Some, None, MatchResult, OnOk, Float};
+ghost use Rattle.std.specs.Prelude.{◌≡◌, ℕ, List, length, false, is_some, Some, None, OnOk, Float};
 ghost use Rattle.decoders.specs.Asks.{answered, ask_fault, left, Rule};
-ghost use Rattle.levels.specs.Faults.{level_fault, OkUnless};
+ghost use Rattle.levels.specs.Faults.{level_fault};
+ghost use Rattle.parity.specs.Bytes.{OkUnless};
 ghost use Rattle.levels.specs.Hard.{hard};
 ghost use Rattle.parity.specs.Words.{bytes_of};
 
@@ -47,7 +48,7 @@ pub fn hard_decision_for(levels: &[f32], size: usize) -> Result<Word, AskFault>
 }
 
 /// Fills a buffer of 162 bytes with the word that was found and answers yes; where there is none the answer is no and the buffer stays
-/// as it is. So it is for another buffer, which is not asked for.
+/// as it is. A buffer of another length stays as it is too, and the answer is no.
 pub fn give(found: Option<Word>, word: &mut [u8]) -> bool
     ensures answer { length word.old ≡ 162 → result ≡ is_some found }
     ensures buffer { length word.old ≡ 162 → word.new ≡ left None (bytes_of found) word.old }

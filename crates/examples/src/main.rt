@@ -102,8 +102,12 @@ fn compare(rt: &HostRuntime, case: &str) -> anyhow::Result<bool> {
     let bytes = bytes_of(rt.alloc(), text)?;
     let is_code = is_code_word(&bytes);
     let found = answer(rt.alloc(), &bytes)?;
-    let as_expected = is_code == (code == "code")
-        && (expected == "-" || found.as_str() == expected);
+    let code_as_expected = match code {
+        "code" => is_code,
+        "none" => !is_code,
+        _ => false,
+    };
+    let as_expected = code_as_expected && (expected == "-" || found.as_str() == expected);
     let mark = if as_expected { "ok" } else { "WRONG" };
     let kind = if is_code { "code word" } else { "no code word" };
     if expected == "-" {

@@ -9,7 +9,7 @@ use kinds::{EachKind, for_each_kind};
 use layout::{Field, MessageType, fields};
 use std::io;
 
-/// Whether the record comes back from a message full of ones, and the bits of other blocks stay.
+/// Whether the record comes back from a message full of ones.
 fn comes_back<K: Block>(of: &K::Record) -> bool
 where
     K::Record: PartialEq,

@@ -4,7 +4,7 @@
 ghost use Rattle.std.specs.Prelude.{OnOk, ⊤};
 ghost use Rattle.std.specs.List.{FoldsTo};
 ghost use Rattle.blocks.specs.declared.place.Place.{Place};
-ghost use Rattle.kinds.specs.Sites.{sites_of};
+ghost use Rattle.kinds.specs.Places.{places_of};
 
 use blocks::Block;
 use blocks::text::Described;
@@ -21,7 +21,7 @@ use type30::health::Health;
 use type30::ionosphere::Ionosphere;
 use type30::week::Week;
 
-/// What is done with each kind of block, and what it is done with.
+/// Visits kinds of block, one after another.
 pub trait EachKind {
     /// Why it ends early.
     type Fault;
@@ -29,7 +29,7 @@ pub trait EachKind {
     // Relates the visitor before a call that succeeds, the place of the kind, and the visitor after it.
     ghost step: { Self → Place → Self → Type 0 } = { λ _ _ _. ⊤ };
 
-    /// Does it with one kind.
+    /// Visits one kind.
     fn kind<K: Block + Described>(&mut self) -> Result<(), Self::Fault>
     where
         K::Record: PartialEq,
@@ -38,7 +38,7 @@ pub trait EachKind {
 
 /// Visits every kind of block that a message of the type has, in the order of their bits, up to the first fault.
 pub fn for_each_kind<V: EachKind>(of: MessageType, visitor: &mut V) -> Result<(), V::Fault>
-    ensures { OnOk result (FoldsTo V.step visitor.old (sites_of of) visitor.new) }
+    ensures { OnOk result (FoldsTo V.step visitor.old (places_of of) visitor.new) }
 {
     match of {
         MessageType::Type10 => {

@@ -37,18 +37,30 @@ macro_rules! twos {
     };
 }
 
+/// A bit that must be 0.
+const ZERO: Field = ranged!(1, 0, 0);
+
+/// The kind of a satellite's orbit; 0 stands for none.
+const SATELLITE_TYPE: Field = ranged!(2, 1, 3);
+
+/// A time of the week in units of 300 s.
+const TIME_11: Field = ranged!(11, 0, 2015);
+
+/// A time of the week in units of 16 s.
+const TIME_16: Field = ranged!(16, 0, 37799);
+
 /// Four bits that must be 0.
 pub const RESERVED: [Field; 4] = [
-    ranged!(1, 0, 0), // the first bit
-    ranged!(1, 0, 0), // the second bit
-    ranged!(1, 0, 0), // the third bit
-    ranged!(1, 0, 0), // the fourth bit
+    ZERO, // the first bit
+    ZERO, // the second bit
+    ZERO, // the third bit
+    ZERO, // the fourth bit
 ];
 
 /// The first half of the orbit: shape, mean motion and perigee.
 pub const EPHEMERIS_1: [Field; 9] = [
-    ranged!(11, 0, 2015), // t_oe
-    ranged!(2, 1, 3), // SatType
+    TIME_11, // t_oe
+    SATELLITE_TYPE, // SatType
     twos!(26), // DeltaA
     twos!(25), // A_dot
     twos!(17), // Delta_n0
@@ -87,7 +99,7 @@ pub const WEEK: [Field; 1] = [
 
 /// The clock correction.
 pub const CLOCK: [Field; 4] = [
-    ranged!(11, 0, 2015), // t_oc
+    TIME_11, // t_oc
     twos!(25), // a0
     twos!(22), // a1
     twos!(11), // a2
@@ -117,7 +129,7 @@ pub const BDT_UTC: [Field; 9] = [
     twos!(13), // A1_UTC
     twos!(7), // A2_UTC
     twos!(8), // dt_LS
-    ranged!(16, 0, 37799), // t_ot
+    TIME_16, // t_ot
     whole!(13), // WN_ot
     whole!(13), // WN_LSF
     whole!(3), // DN
@@ -126,7 +138,7 @@ pub const BDT_UTC: [Field; 9] = [
 
 /// The motion of the pole, and UT1.
 pub const EARTH_ORIENTATION: [Field; 7] = [
-    ranged!(16, 0, 37799), // t_EOP
+    TIME_16, // t_EOP
     twos!(21), // PM_X
     twos!(15), // PM_X_dot
     twos!(21), // PM_Y

@@ -1,5 +1,5 @@
 -- Which level is the first that is not legal, and why levels are refused.
-use Rattle.std.specs.Prelude.{◌≡◌, ℕ, ◌<◌, Bool, true, false, cond, List, length, Some, None, Option, Result, MatchResult, ◌==◌, slice_index_or, Float}
+use Rattle.std.specs.Prelude.{◌≡◌, ℕ, ◌<◌, Bool, true, false, cond, List, length, Some, None, Option, ◌==◌, slice_index_or, Float}
 use Rattle.std.specs.Float.{nan}
 use Rattle.std.specs.Option.{option_map}
 use Rattle.parity.specs.Bytes.{first}
@@ -13,10 +13,6 @@ is_legal xs k = legal (slice_index_or xs k nan)
 
 abbrev pub first_illegal : List Float → Option ℕ
 first_illegal xs = first (length xs) (is_legal xs)
-
--- a value with P where there is no fault, and otherwise the fault
-abbrev pub OkUnless : {A E : Type 0} → Option E → (A → Type 0) → Result A E → Type 0
-OkUnless fault P r = MatchResult r (λ x. P x × (fault ≡ None)) (λ e. fault ≡ Some e)
 
 -- the length first, then the first illegal level
 abbrev pub level_fault : ℕ → List Float → Option LevelFault

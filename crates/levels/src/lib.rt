@@ -6,7 +6,8 @@
 
 ghost use Rattle.std.specs.Prelude.{◌≡◌, ◌+◌, ◌/◌, ◌<◌, ◌≤◌, map, length, IfOk, Some, None, Decides, MatchOption, MatchResult};
 ghost use Rattle.bits.specs.Bits.{bits_of};
-ghost use Rattle.levels.specs.Faults.{first_illegal, level_fault, FirstIllegal, LegalBelow, OkUnless};
+ghost use Rattle.levels.specs.Faults.{first_illegal, level_fault, FirstIllegal, LegalBelow};
+ghost use Rattle.parity.specs.Bytes.{OkUnless};
 ghost use Rattle.levels.specs.Hard.{hard, symbol_at};
 ghost use Rattle.levels.specs.Levels.{bit, legal, level_at, levels_in, Negative, WithinFour};
 
@@ -41,6 +42,7 @@ pub fn first_illegal(levels: &[f32]) -> Option<usize>
     ensures value { result ≡ first_illegal levels.now }
     ensures found { MatchOption result (LegalBelow levels.now (length levels.now)) (FirstIllegal levels.now) }
 {
+    // A loop over the slice with its index: the form that the project asks for at this search.
     for (i, level) in levels.iter().enumerate() {
         if !is_legal(*level) {
             return Some(i);

@@ -1,10 +1,10 @@
 //! The nearest-of-two decoder: of what two decoders propose, the word that is nearer to the levels.
 #![tactic(auto)]
 
-ghost use Rattle.std.specs.Prelude.{◌≡◌, Some, None, MatchResult};
+ghost use Rattle.std.specs.Prelude.{◌≡◌, Some, None};
 ghost use Rattle.decoders.specs.Asks.{ask_fault};
 ghost use Rattle.decoders.specs.Reach.{Reach};
-ghost use Rattle.levels.specs.Faults.{OkUnless};
+ghost use Rattle.parity.specs.Bytes.{OkUnless};
 ghost use Rattle.nearest.specs.Nearest.{nearer_of, nearest, proposed};
 ghost use Rattle.parity.specs.Words.{bytes_of};
 ghost use Rattle.std.proofs.Common.{rules};

@@ -1,10 +1,14 @@
 -- Why bytes are not symbols, and which row of a word is the first with a sum that is not 0.
-use Rattle.std.specs.Prelude.{ℕ, zero, suc, Bool, cond, List, length, Some, None, Option, ◌==◌, nat_le, slice_index}
+use Rattle.std.specs.Prelude.{◌≡◌, ℕ, zero, suc, Bool, cond, List, length, Some, None, Option, Result, MatchResult, ◌==◌, nat_le, slice_index}
 use Rattle.std.specs.Option.{option_map}
 use Rattle.parity.specs.Code.{row_sum}
 use Rattle.parity.specs.Table.{bcnav3}
 use Rattle.parity.specs.declared.SymbolFault.{SymbolFault}
 use Rattle.parity.specs.declared.SymbolFault.TheVariants.{Length, Byte}
+
+-- a value with P where there is no fault, and otherwise the fault
+abbrev pub OkUnless : {A E : Type 0} → Option E → (A → Type 0) → Result A E → Type 0
+OkUnless fault P r = MatchResult r (λ x. P x × (fault ≡ None)) (λ e. fault ≡ Some e)
 
 -- of the n numbers from i on, the first that fails the test
 unfoldable pub first_from : ℕ → ℕ → (ℕ → Bool) → Option ℕ

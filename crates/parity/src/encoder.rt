@@ -22,6 +22,7 @@ fn next(word: &Word, turn: &Turn, last: u8) -> (usize, u8)
     ensures symbol { result.1 ≡ turned (turn_of turn.now) (sym_at word.now.bytes) last }
     ensures below { (result.0 < 162) × (result.1 < 64) }
 {
+    // The check places of a row are its third and fourth, 2 and 3: the one beside `from` is 5 - from.
     let (row, from) = *turn;
     let row = &table::rows()[row as usize];
     let (_, factor) = row[from as usize];

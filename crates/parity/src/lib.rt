@@ -4,8 +4,8 @@
 //! code word, and a code word that is altered at one place or at two is none.
 #![tactic(auto)]
 
-ghost use Rattle.std.specs.Prelude.{◌≡◌, ℕ, ◌%◌, ◌<◌, ◌⊎◌, List, length, take, Some, None, MatchResult, slice_index};
-ghost use Rattle.parity.specs.Bytes.{symbol_fault, first_nonzero};
+ghost use Rattle.std.specs.Prelude.{◌≡◌, ℕ, ◌%◌, ◌<◌, ◌⊎◌, List, length, take, Some, None, slice_index};
+ghost use Rattle.parity.specs.Bytes.{symbol_fault, first_nonzero, OkUnless};
 ghost use Rattle.parity.specs.Code.{Code, Codeword, Encodes, altered, factor_of, row_sum};
 ghost use Rattle.parity.specs.Sound.{Sound, AlteredIsNone};
 ghost use Rattle.parity.specs.Table.{bcnav3};
@@ -43,7 +43,7 @@ pub type Message = Symbols<81>;
 impl<const N: usize> Symbols<N> {
     /// The bytes as symbols.
     pub fn new(bytes: &[u8]) -> Result<Symbols<N>, SymbolFault>
-        ensures { MatchResult result (λ s. (s.bytes ≡ bytes.now) × (symbol_fault N bytes.now ≡ None)) (λ e. symbol_fault N bytes.now ≡ Some e) }
+        ensures { OkUnless (symbol_fault N bytes.now) (λ s. s.bytes ≡ bytes.now) result }
     {
         let Ok(copy) = <[u8; N]>::try_from(bytes) else {
             return Err(SymbolFault::Length);

@@ -4,12 +4,12 @@
 //! them. Each difference, product and sum is rounded once.
 #![tactic(auto)]
 
-ghost use Rattle.std.specs.Prelude.{◌≡◌, ℕ, ◌<◌, false, IfOk, Some, None, Decides, MatchResult, slice_index};
+ghost use Rattle.std.specs.Prelude.{◌≡◌, ℕ, ◌<◌, false, IfOk, Some, None, Decides, slice_index};
 ghost use Rattle.std.specs.Float.{float_max};
 ghost use Rattle.std.specs.Float.Ieee.{lt};
 ghost use Rattle.std.specs.Float.Ieee.Exact.{HasValue};
 ghost use Rattle.bits.specs.Bits.{bits_of};
-ghost use Rattle.levels.specs.Faults.{OkUnless};
+ghost use Rattle.parity.specs.Bytes.{OkUnless};
 ghost use Rattle.scores.specs.Faults.{score_fault};
 ghost use Rattle.scores.specs.Scored.{distance as distance_of, score_of};
 ghost use Rattle.scores.specs.Whole.{EveryEighth, Exact};

@@ -90,9 +90,9 @@ fn frame_of(heap: Global, said: &str) -> Result<[u8; 125], SourceFault> {
     let satellite: u8 = take(&mut entries, "satellite")?;
     let number: u8 = take(&mut entries, "type")?;
     let second: u32 = take(&mut entries, "second")?;
+    let of = MessageType::try_from(number).map_err(|fault| WriterFault::UnknownType(fault.0))?;
     let mut symbols = [0u8; 162];
     ask_start(symbols.len(), number, second)?;
-    let of = MessageType::try_from(number).map_err(|fault| WriterFault::UnknownType(fault.0))?;
     let mut draft = start(&mut symbols, number, second);
     for_each_kind(
         of,

@@ -23,6 +23,7 @@ impl Name {
     {
         match self {
             Name::Plain(name) => text == name,
+            // As a chain of `and_then` and `is_some_and` a goal stays open.
             Name::Field(block, field) => match text.strip_prefix(block) {
                 Some(rest) => match rest.strip_prefix('.') {
                     Some(rest) => rest == field,

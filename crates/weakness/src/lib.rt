@@ -4,10 +4,10 @@
 //! the lower counts as the weaker.
 #![tactic(auto)]
 
-ghost use Rattle.std.specs.Prelude.{◌≡◌, ℕ, ◌<◌, length, get_or, IfOk, Some, None, MatchResult, OnOk, slice_index_or};
+ghost use Rattle.std.specs.Prelude.{◌≡◌, ℕ, ◌<◌, length, get_or, IfOk, Some, None, OnOk, slice_index_or};
 ghost use Rattle.std.specs.Float.{float_min, nan};
 ghost use Rattle.decoders.specs.Asks.{ask_fault};
-ghost use Rattle.levels.specs.Faults.{OkUnless};
+ghost use Rattle.parity.specs.Bytes.{OkUnless};
 ghost use Rattle.weakness.specs.Weakness.{lower_first, weakest_of, weakness, with_place, Least, Size, Weakest};
 
 use decoders::fault::AskFault;

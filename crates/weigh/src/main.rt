@@ -11,6 +11,7 @@ use std::env;
 use std::fs::File;
 use std::io::Read;
 use std::num::f32_to_bits_with_nan;
+use terminal::unknown_word;
 
 const HELP: &str = "usage: weigh DIGITS < LEVELS
        weigh --file WORD < LEVELS
@@ -118,7 +119,7 @@ fn run(rt: &HostRuntime) -> anyhow::Result<()> {
         ("--help", None) => Ok(println!(rt; "{HELP}")?),
         ("--file", Some(path)) => answer(rt, &read_word(rt, path.as_str())?),
         (digits, None) => answer(rt, &parse_hexadecimal(rt.alloc(), digits)?),
-        _ => Err(anyhow!("unknown argument; try --help")),
+        _ => Err(unknown_word()),
     }
 }
 

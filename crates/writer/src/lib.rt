@@ -41,6 +41,7 @@ pub struct Draft<'a> {
     row: Row<'a>,
     message_type: MessageType,
     /// Which blocks it has, by their numbers; no block has the number 0.
+    // An array, since the numbers are those that kinds give, and no heap is used.
     done: [bool; 12],
 }
 
@@ -58,6 +59,7 @@ pub struct Coded<'a> {
 }
 
 /// Whether a draft of this type and this second can begin in a buffer of this length, or the first fault.
+// A number, since refusal 11 names the one that was given, whatever it was.
 pub fn ask_start(length: usize, number: u8, second: u32) -> Result<(), WriterFault>
     ensures { result ≡ start_answer length number second }
 {

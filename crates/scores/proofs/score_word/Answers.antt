@@ -1,5 +1,5 @@
-use Rattle.std.proofs.Common.{◌≡◌, ℕ, ◌+◌, ◌<◌, min, List, length, get_or, take, refl, ap, ◌∙◌, zero-add, arith}
-use lib.Ieee.{Float, nan, binary32, add, mul, of_bits}
+use Rattle.std.proofs.Common.{◌≡◌, ℕ, ◌+◌, ◌<◌, min, List, length, get_or, take, ap, ◌∙◌, zero-add, arith}
+use lib.Ieee.{Float, nan, binary32, add, mul}
 use Rattle.std.proofs.lemmas.Iterator.{YieldsList-from_slice, YieldsList-from_take}
 use Rattle.std.proofs.lemmas.Iterator.Consumers.{YieldsList-from_enumerate, YieldsList-end, YieldsList-turn}
 use Rattle.std.proofs.lemmas.List.{get_or-take, get_or_default, length_push, length-take}

@@ -1,7 +1,6 @@
-use Rattle.std.proofs.Common.{sym, ap, ◌∙◌}
+use Rattle.std.proofs.Common.{ap, ◌∙◌}
 use Rattle.parity.specs.Code.{altered}
 use Rattle.correction.proofs.Agree.{altered_twice}
-use Rattle.correction.proofs.Trials.{trial_at}
 use Rattle.correction.proofs.single.try_change.Goals as goal
 
 pub returns-clause-back : goal.returns-clause-back

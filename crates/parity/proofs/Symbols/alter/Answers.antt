@@ -1,5 +1,5 @@
-use Rattle.std.proofs.Common.{◌≤◌, length, sym, ◌∙◌, arith}
-use Rattle.std.proofs.lemmas.List.{length-set, set_past}
+use Rattle.std.proofs.Common.{◌∙◌, arith}
+use Rattle.std.proofs.lemmas.List.{length-set}
 use Rattle.gf64.proofs.Laws.{xor_small}
 use Rattle.parity.proofs.Small.{set_small}
 use Rattle.parity.proofs.Symbols.alter.Goals as goal

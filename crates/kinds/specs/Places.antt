@@ -16,9 +16,9 @@ use Rattle.type30.specs.IonosphereCounts as ionosphere
 use Rattle.type30.specs.WeekCounts as week
 
 -- what is not taken apart has no block
-abbrev pub sites_of : MessageType → List Place
-sites_of Type10 = ephemeris1.place_of ∷ ephemeris2.place_of ∷ integrity.place_of ∷ []
-sites_of Type30 =
+abbrev pub places_of : MessageType → List Place
+places_of Type10 = ephemeris1.place_of ∷ ephemeris2.place_of ∷ integrity.place_of ∷ []
+places_of Type30 =
     week.place_of ∷ clock.place_of ∷ group_delay.place_of ∷ ionosphere.place_of ∷ bdt_utc.place_of
     ∷ earth_orientation.place_of ∷ accuracy.place_of ∷ health.place_of ∷ []
-sites_of Type40 = []
+places_of Type40 = []
