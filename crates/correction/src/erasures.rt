@@ -32,6 +32,7 @@ fn error_at(word: &Word, place: usize, other: usize) -> u8
 ///
 /// A word has at most one such code word, in any code with a sound table. The two places may be the same, and a place past
 /// the last names no symbol.
+// Two places and no pair: the decoder takes the pair of the weakest places apart.
 pub fn fill_erasures(word: &Word, first: usize, second: usize) -> Option<Word>
     ensures answer { bytes_of result ≡ filled word.now.bytes first second }
     ensures only { Only (Outside bcnav3 word.now.bytes first second) (bytes_of result) }

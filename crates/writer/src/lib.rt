@@ -59,7 +59,7 @@ pub struct Coded<'a> {
 }
 
 /// Whether a draft of this type and this second can begin in a buffer of this length, or the first fault.
-// A number, since refusal 11 names the one that was given, whatever it was.
+// Two numbers, and no struct of a type and a second: refusal 11 names the one that was given, whatever it was.
 pub fn ask_start(length: usize, number: u8, second: u32) -> Result<(), WriterFault>
     ensures { result ≡ start_answer length number second }
 {

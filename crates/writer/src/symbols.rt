@@ -18,6 +18,7 @@ use parity::Message;
 /// The symbols of a lent buffer.
 ///
 /// They are a slice and no array: the library lends an array anew, and no clause could say that it is the lent buffer.
+// That a step works on the buffer that was lent is the clause `same` of each, since no type says it.
 #[derive(Drop)]
 pub(crate) struct Row<'a> {
     pub(crate) buf: &'a mut [u8],
