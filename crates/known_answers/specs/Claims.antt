@@ -17,6 +17,7 @@ use Rattle.message.specs.declared.fault.MessageFault.{MessageFault}
 use Rattle.parity.specs.Code.{row_sum, sym_at}
 use Rattle.parity.specs.Ring.{term}
 use Rattle.parity.specs.Table.{bcnav3}
+use Rattle.refusal.specs.Numbers.{reason_number}
 use Rattle.refusal.specs.declared.Layer.TheVariants.{Message as MessageLayer}
 use Rattle.type30.specs.Eighths.{eighths_of}
 
@@ -68,7 +69,8 @@ pub data Claim : Type 0 where
 
 abbrev pub RefusedBy : Result Header MessageFault → ℕ → ℕ → Type 0
 RefusedBy (Ok h) n p = ⊥
-RefusedBy (Err e) n p = message_refusal e ≡ record { number = n; layer = MessageLayer; place = p }
+RefusedBy (Err e) n p =
+    let r = message_refusal e in (reason_number r.reason ≡ n) × ((r.layer ≡ MessageLayer) × (r.place ≡ p))
 
 abbrev pub count_in : Field → ℕ → ℤ
 count_in f v = count_of f.signed f.width v

@@ -10,7 +10,8 @@ use Rattle.parity.specs.Bytes.{symbol_fault}
 use Rattle.parity.specs.declared.SymbolFault.{SymbolFault}
 use Rattle.parity.specs.declared.SymbolFault.TheVariants.{Length}
 use Rattle.levels.proofs.Faults.{legal_levels, length_levels}
-use Rattle.levels.specs.Faults.{level_fault, LegalBelow, OkUnless}
+use Rattle.levels.specs.Faults.{level_fault, LegalBelow}
+use Rattle.parity.specs.Bytes.{OkUnless}
 use Rattle.levels.specs.declared.fault.LevelFault.{LevelFault}
 use Rattle.scores.specs.Faults.{in_turn, score_fault}
 use Rattle.scores.specs.Scored.{score_of, squares}

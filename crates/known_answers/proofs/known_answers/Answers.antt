@@ -15,5 +15,5 @@ unfolding claims mul mul_low times_x scaled weighted rows places factors crc_ste
 returns c =
     record {
       count = refl;
-      each = (refl, (refl, ((refl, refl), ((refl, refl), (refl, (refl, (refl, (refl, (refl, (refl, (refl, (refl, (refl, (refl, (refl, (refl, (refl, (refl, (refl, (refl, tt))))))))))))))))))));
+      each = (refl, (refl, ((refl, refl), ((refl, refl), (refl, (refl, (refl, ((refl, (refl, refl)), (refl, ((refl, (refl, refl)), (refl, ((refl, (refl, refl)), (refl, ((refl, (refl, refl)), (refl, (refl, (refl, (refl, (refl, (refl, tt))))))))))))))))))));
     }
