@@ -1,6 +1,8 @@
 //! Measures the time of calls. It is proved like every program; what it prints is not compared.
 #![tactic(auto)]
 
+ghost use Rattle.std.specs.Prelude.{◌<◌};
+
 use blocks::Block;
 use decoders::Decoder;
 use erasure::ErasureDecoder;
@@ -31,17 +33,25 @@ const FRAMES: u32 = 10_000;
 
 const ASKS: u32 = 1_000;
 
+/// Does something so many times. Says how long it took on average, in nanoseconds, and how often the answer was yes.
+fn time<F: FnMut() -> bool>(rt: &HostRuntime, runs: u32, mut run: F) -> anyhow::Result<(u128, u32)>
+    requires callable { F.IsAlwaysCallable run }
+    requires some { 0 < runs }
+{
+    let mut yes = 0u32;
+    let start = Instant::now(rt)?;
+    for _ in 0..runs {
+        if run() {
+            yes = yes.saturating_add(1);
+        }
+    }
+    Ok((start.elapsed(rt)?.as_nanos() / u128::from(runs), yes))
+}
+
 fn time_check(rt: &HostRuntime) -> anyhow::Result<()> {
     let mut bytes = Vec::new(rt.alloc());
     rt.stdin().take(163).read_to_end(&mut bytes)?;
-    let mut accepted = 0u32;
-    let start = Instant::now(rt)?;
-    for _ in 0..RUNS {
-        if check(&bytes).is_ok() {
-            accepted = accepted.saturating_add(1);
-        }
-    }
-    let mean = start.elapsed(rt)?.as_nanos() / u128::from(RUNS);
+    let (mean, accepted) = time(rt, RUNS, || check(&bytes).is_ok())?;
     println!(rt; "check: {mean} ns, {accepted} of {RUNS} accepted")?;
     Ok(())
 }
@@ -63,16 +73,16 @@ fn frame_of(second: u32) -> Result<[u8; 125], WriterFault> {
 }
 
 fn time_frame(rt: &HostRuntime) -> anyhow::Result<()> {
-    let mut written = 0u32;
+    let mut second = 0u32;
     let mut last = 0u8;
-    let start = Instant::now(rt)?;
-    for second in 0..FRAMES {
-        if let Ok(frame) = frame_of(second) {
-            written = written.saturating_add(1);
+    let (mean, written) = time(rt, FRAMES, || {
+        let frame = frame_of(second);
+        second = second.saturating_add(1);
+        if let Ok(frame) = frame {
             last = frame[124];
         }
-    }
-    let mean = start.elapsed(rt)?.as_nanos() / u128::from(FRAMES);
+        frame.is_ok()
+    })?;
     println!(rt; "frame: {mean} ns, {written} of {FRAMES} written, last byte {last}")?;
     Ok(())
 }
@@ -92,16 +102,7 @@ fn time_asks<D: Decoder>(
     name: &str,
     levels: &[f32; 972],
 ) -> anyhow::Result<()> {
-    // a loop, since as a chain of `filter` and `count` the same calls measure 7 in 100 slower
-    let mut given = 0u32;
-    let start = Instant::now(rt)?;
-    for _ in 0..ASKS {
-        let mut word = [0u8; 162];
-        if decoder.ask(levels, &mut word) == Ok(true) {
-            given = given.saturating_add(1);
-        }
-    }
-    let mean = start.elapsed(rt)?.as_nanos() / u128::from(ASKS);
+    let (mean, given) = time(rt, ASKS, || decoder.ask(levels, &mut [0; 162]) == Ok(true))?;
     println!(rt; "{name}: {mean} ns, {given} of {ASKS} given")?;
     Ok(())
 }
@@ -132,12 +133,10 @@ fn time_decoders(rt: &HostRuntime) -> anyhow::Result<()> {
 }
 
 fn run(rt: &HostRuntime) -> anyhow::Result<()> {
-    let mut args = env::args(rt)?;
-    let _program = args.next();
-    match args.next() {
-        Some(word) if word.as_str() == "check" => time_check(rt),
-        Some(word) if word.as_str() == "frame" => time_frame(rt),
-        Some(word) if word.as_str() == "decoders" => time_decoders(rt),
+    match env::args(rt)?.nth(1).as_deref() {
+        Some("check") => time_check(rt),
+        Some("frame") => time_frame(rt),
+        Some("decoders") => time_decoders(rt),
         _ => Ok(eprintln!(rt; "{HELP}")?),
     }
 }

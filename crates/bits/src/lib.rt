@@ -52,6 +52,7 @@ fn set_bit(symbols: &mut [u8], k: usize, b: u8)
 ///
 /// The message is the first 81 symbols. Nothing changes where there are fewer, where the message has no such
 /// bits, and where they are more than 55.
+// Two numbers, as in `get_bits`.
 pub fn put_bits(symbols: &mut [u8], at: usize, width: usize, value: u64)
     ensures bits { 81 ≤ length symbols.old → width ≤ 55 → at + width ≤ 486 → bits_of symbols.new ≡ pasted (bits_of symbols.old) at (spelled width value) }
     ensures none { (81 ≤ length symbols.old → width ≤ 55 → at + width ≤ 486 → ⊥) → symbols.new ≡ symbols.old }

@@ -31,6 +31,7 @@ use place::Place;
 /// The meaning of a record is the list of its counts, in the order of the layout's fields.
 pub trait Block {
     /// Its width in bits.
+    // A constant of its own beside `PLACE`: a form that the project asks for.
     const WIDTH: usize;
     /// Where it stands in a message.
     const PLACE: Place;
@@ -133,6 +134,7 @@ pub fn first_unfit<K: Block>(of: &K::Record) -> Option<usize>
     ensures { result ≡ first_unfit (placed_of K.PLACE) (K.counts of.now) }
 {
     let place = K::PLACE;
+    // Counted along, as in `get_counts`.
     let mut at = place.first_bit;
     let all = fields(place.part);
     for (i, field) in all.iter().enumerate() {
@@ -151,6 +153,7 @@ fn put_counts<K: Block>(of: &K::Record, symbols: &mut [u8])
     ensures small { KeepsSmall symbols.old symbols.new }
 {
     let place = K::PLACE;
+    // Counted along, as in `get_counts`.
     let mut at = place.first_bit;
     let all = fields(place.part);
     for (i, field) in all.iter().enumerate() {

@@ -18,6 +18,7 @@ fn tells(row: usize, place: usize, other: usize) -> bool
 
 /// What has to be added to the symbol at `place` for a code word that agrees with the word outside `place` and `other`:
 /// the sum of a row that tells it, over the factor.
+// A byte, as in `gf64::product`.
 fn error_at(word: &Word, place: usize, other: usize) -> u8
     ensures solves { Solves bcnav3 word.now.bytes place other result }
     ensures below { result < 64 }

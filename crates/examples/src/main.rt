@@ -120,6 +120,7 @@ fn compare(rt: &HostRuntime, case: &str) -> anyhow::Result<bool> {
 
 fn compare_all(rt: &HostRuntime) -> anyhow::Result<()> {
     let mut right = 0usize;
+    // A loop, since each comparison prints, and may fail to.
     for case in CASES.lines() {
         if compare(rt, case)? {
             right = right.saturating_add(1);
@@ -137,7 +138,7 @@ fn compare_all(rt: &HostRuntime) -> anyhow::Result<()> {
 
 fn main(rt: HostRuntime) -> anyhow::Result<()> {
     let word = env::args(&rt)?.nth(1);
-    on_word(&rt, HELP, word.as_ref().map(|word| word.as_str()), |word| {
+    on_word(&rt, HELP, word.as_deref(), |word| {
         no_word(word)?;
         compare_all(&rt)
     })

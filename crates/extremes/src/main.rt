@@ -70,6 +70,7 @@ impl EachKind for Trials<'_> {
     {
         let place = K::PLACE;
         let all = fields(place.part);
+        // Counted along, as in `blocks`.
         let mut bit = place.first_bit;
         let mut right = 0usize;
         for (i, field) in all.iter().enumerate() {

@@ -1,7 +1,6 @@
 //! Prints the fields of a message as text.
 #![tactic(auto)]
 
-use blocks::fault::BlockFault;
 use blocks::text::{Described, FieldText};
 use blocks::{Block, read};
 use kinds::{EachKind, for_each_kind};
@@ -9,7 +8,7 @@ use layout::{MessageType, fields};
 use message::answer::Header;
 use message::{check, examine};
 use parity::Message;
-use refusal::{InWords, Refusal};
+use refusal::{InWords, Layer, Refusal};
 use std::io::Read;
 use std::num::nearest_i64_to_f64;
 use std::{env, fmt};
@@ -115,7 +114,7 @@ fn message_of(bytes: &[u8]) -> Result<(Header, Message), Refusal> {
         check(bytes).map_err(|fault| fault.refusal())?;
     }
     let symbols = &bytes[..bytes.len().min(81)];
-    let message = Message::new(symbols).map_err(|fault| BlockFault::Symbols(fault).refusal())?;
+    let message = Message::new(symbols).map_err(|fault| fault.refusal(Layer::Block))?;
     let header = examine(&message).map_err(|fault| fault.refusal())?;
     Ok((header, message))
 }
@@ -129,7 +128,7 @@ fn answer(rt: &HostRuntime, bytes: &[u8]) -> anyhow::Result<()> {
 
 fn main(rt: HostRuntime) -> anyhow::Result<()> {
     let word = env::args(&rt)?.nth(1);
-    on_word(&rt, HELP, word.as_ref().map(|word| word.as_str()), |word| {
+    on_word(&rt, HELP, word.as_deref(), |word| {
         no_word(word)?;
         let mut bytes = Vec::new(rt.alloc());
         rt.stdin().take(LIMIT).read_to_end(&mut bytes)?;

@@ -144,13 +144,13 @@ fn width(part: Part) -> usize
     }
 }
 
-/// The count that the low `width` bits of `raw` stand for.
-fn count_of(signed: bool, width: usize, raw: u64) -> i64
-    requires { (1 ≤ width) × ((width ≤ 55) × (raw < 2 ^ width)) }
-    ensures { result ≡ count_of signed width raw }
+/// The count that the bits of a field stand for.
+fn count_of(field: Field, raw: u64) -> i64
+    requires { Sized field × (raw < 2 ^ field.width) }
+    ensures { result ≡ count_of field.signed field.width raw }
 {
-    if signed && raw >= (1u64 << (width - 1)) {
-        -(((1u64 << width) - raw) as i64)
+    if field.signed && raw >= (1u64 << (field.width - 1)) {
+        -(((1u64 << field.width) - raw) as i64)
     } else {
         raw as i64
     }
@@ -166,11 +166,7 @@ pub fn count_at(field: Field, at: usize, symbols: &[u8; 81]) -> i64
     if field.width == 0 || field.width > 55 || at > 486 - field.width {
         return 0;
     }
-    count_of(
-        field.signed,
-        field.width,
-        get_bits(symbols, at, field.width),
-    )
+    count_of(field, get_bits(symbols, at, field.width))
 }
 
 /// Whether a count is out of the field's range.
@@ -193,6 +189,7 @@ fn first_outside(fields: &[Field], from: usize, symbols: &[u8; 81]) -> Option<us
     requires { (AllByRecursion Sized fields.now) × (from + widths fields.now ≤ 486) }
     ensures { result ≡ first_outside (placed from fields.now) (bits_of symbols.now) }
 {
+    // The first bit of each field is counted along, as in `blocks`.
     let mut at = from;
     for field in fields {
         if holds_outside(*field, at, symbols) {
@@ -226,6 +223,7 @@ fn first_in_parts<F: Fn(Part) -> bool>(
     requires { F.IsAlwaysCallable keeps }
     ensures { (keep : Part → Bool) → Decided (F.post keeps) keep → result ≡ first_outside (spread keep 26 (parts_of kind)) (bits_of symbols.now) }
 {
+    // The first bit of each part is counted along, as that of each field.
     let mut at = 26;
     for part in parts(kind) {
         if keeps(*part) {

@@ -1,6 +1,7 @@
 //! The parts of each type and the fields of each part, in the order in which they are sent.
 use crate::{Field, Part};
 
+// Macros and no functions, since a constant's value can call none.
 /// A field without a sign, of so many bits, from a least to a greatest count.
 macro_rules! ranged {
     ($width:literal, $least:literal, $most:literal) => {

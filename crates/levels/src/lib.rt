@@ -114,6 +114,7 @@ pub fn level_from(bytes: [u8; 4]) -> f32
 pub fn read_levels(heap: Global, bytes: &[u8]) -> Result<Vec<f32>, AllocError>
     ensures { IfOk result (λ v. v.items ≡ levels_in bytes.now (length bytes.now / 4)) }
 {
+    // A loop: as a chain with `collect` a goal stays open.
     let mut levels = Vec::new(heap);
     for four in bytes.as_chunks::<4>().0 {
         levels.push(level_from(*four))?;

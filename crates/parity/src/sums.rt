@@ -10,6 +10,7 @@ use crate::table::{Entry, Row};
 use gf64::product;
 
 /// The symbol at a place, times its factor.
+// A byte, as in `gf64::product`.
 pub(crate) fn term(word: &Word, entry: &Entry) -> u8
     requires { (entry.now.0 < 162) × (entry.now.1 < 64) }
     ensures { result ≡ mul entry.now.1 (sym_at word.now.bytes entry.now.0) }

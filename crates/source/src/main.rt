@@ -175,7 +175,7 @@ impl Output<'_> {
 
 fn main(rt: HostRuntime) -> anyhow::Result<()> {
     let word = env::args(&rt)?.nth(1);
-    on_word(&rt, HELP, word.as_ref().map(|word| word.as_str()), |word| {
+    on_word(&rt, HELP, word.as_deref(), |word| {
         let form = Form::asked_by(word)?;
         Output { rt: &rt, form }.answer()
     })

@@ -70,9 +70,7 @@ impl Block for GroupDelay {
 impl Described for GroupDelay {
     const NAME: &'static str = "group_delay";
 
-    fn field_text(i: usize) -> FieldText {
-        match i {
-            _ => FieldText::scaled("TGD", 1, -34, "s"),
-        }
+    fn field_text(_i: usize) -> FieldText {
+        FieldText::scaled("TGD", 1, -34, "s")
     }
 }

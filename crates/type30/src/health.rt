@@ -70,9 +70,7 @@ impl Block for Health {
 impl Described for Health {
     const NAME: &'static str = "health";
 
-    fn field_text(i: usize) -> FieldText {
-        match i {
-            _ => FieldText::plain("HS"),
-        }
+    fn field_text(_i: usize) -> FieldText {
+        FieldText::plain("HS")
     }
 }

@@ -70,9 +70,7 @@ impl Block for Week {
 impl Described for Week {
     const NAME: &'static str = "week";
 
-    fn field_text(i: usize) -> FieldText {
-        match i {
-            _ => FieldText::scaled("WN", 1, 0, "week"),
-        }
+    fn field_text(_i: usize) -> FieldText {
+        FieldText::scaled("WN", 1, 0, "week")
     }
 }

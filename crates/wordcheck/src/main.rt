@@ -36,7 +36,7 @@ fn answer(rt: &HostRuntime) -> anyhow::Result<()> {
 
 fn main(rt: HostRuntime) -> anyhow::Result<()> {
     let word = env::args(&rt)?.nth(1);
-    on_word(&rt, HELP, word.as_ref().map(|word| word.as_str()), |word| {
+    on_word(&rt, HELP, word.as_deref(), |word| {
         no_word(word)?;
         answer(&rt)
     })

@@ -54,6 +54,7 @@ pub struct Sealed<'a> {
 /// The word of a message.
 #[derive(Drop)]
 pub struct Coded<'a> {
+    // A slice, as in `Row`.
     buf: &'a mut [u8],
     ghost long: { length buf.now ≡ 162 },
 }
@@ -78,6 +79,7 @@ pub fn ask_start(length: usize, number: u8, second: u32) -> Result<(), WriterFau
 /// A draft of a type and a second, without a block, where `ask_start` refuses nothing.
 ///
 /// All other bits of the buffer become 0. The draft is drafted: what `seal` needs for a lawful message holds of it.
+// The number again, as `ask_start` said yes to it.
 pub fn start<'a>(buffer: &'a mut [u8], number: u8, second: u32) -> Draft<'a>
     requires { start_answer (length buffer.old) number second ≡ Ok tt }
     ensures holds { bits_of result.row.buf.now ≡ start_bits number second }
