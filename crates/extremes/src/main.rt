@@ -1,13 +1,30 @@
 //! Writes and reads records at the edges of their ranges, of every kind of block, and prints a line for each kind.
+//!
+//! It also composes a frame of the least counts of each type, and prints nothing of that where it goes as it should.
 #![tactic(auto)]
 
 use anyhow::ensure;
 use blocks::fault::BlockFault;
 use blocks::text::Described;
 use blocks::{Block, read, write};
+use compose::compose;
+use compose::records::{Contents, Records, Type10Records, Type30Records};
 use kinds::{EachKind, for_each_kind};
 use layout::{Field, MessageType, fields};
+use message::answer::Header;
+use message::check;
 use std::io;
+use type10::ephemeris1::Ephemeris1;
+use type10::ephemeris2::Ephemeris2;
+use type10::integrity::Integrity;
+use type30::accuracy::Accuracy;
+use type30::bdt_utc::BdtUtc;
+use type30::clock::Clock;
+use type30::earth_orientation::EarthOrientation;
+use type30::group_delay::GroupDelay;
+use type30::health::Health;
+use type30::ionosphere::Ionosphere;
+use type30::week::Week;
 
 /// Whether the record comes back from a message full of ones.
 fn comes_back<K: Block>(of: &K::Record) -> bool
@@ -26,20 +43,20 @@ fn is_refused<K: Block>(of: &K::Record, bit: usize) -> bool {
 }
 
 /// The record with every field at its least count.
-fn least<K: Block>(all: &[Field]) -> K::Record {
+fn least<K: Block>() -> K::Record {
     let mut of = K::zero();
-    for (i, field) in all.iter().enumerate() {
+    for (i, field) in fields(K::PLACE.part).iter().enumerate() {
         K::set_count(&mut of, i, field.least);
     }
     of
 }
 
 /// How many of four trials of field number `i`, which begins at `bit`, go as they should: its ends, and one past each.
-fn ends<K: Block>(all: &[Field], i: usize, bit: usize, field: Field) -> usize
+fn ends<K: Block>(i: usize, bit: usize, field: Field) -> usize
 where
     K::Record: PartialEq,
 {
-    let mut of = least::<K>(all);
+    let mut of = least::<K>();
     let at_least = comes_back::<K>(&of);
     K::set_count(&mut of, i, field.most);
     let at_most = comes_back::<K>(&of);
@@ -74,7 +91,7 @@ impl EachKind for Trials<'_> {
         let mut bit = place.first_bit;
         let mut right = 0usize;
         for (i, field) in all.iter().enumerate() {
-            right = right.saturating_add(ends::<K>(all, i, bit, *field));
+            right = right.saturating_add(ends::<K>(i, bit, *field));
             bit = bit.saturating_add(field.width);
         }
         let trials = all.len().saturating_mul(4);
@@ -85,6 +102,43 @@ impl EachKind for Trials<'_> {
     }
 }
 
+// Two lists of records: what is composed has a field for each.
+/// The least counts of a message of type 10.
+fn least_10() -> Records {
+    Records::Type10(Type10Records {
+        ephemeris1: least::<Ephemeris1>(),
+        ephemeris2: least::<Ephemeris2>(),
+        integrity: least::<Integrity>(),
+    })
+}
+
+/// The least counts of a message of type 30.
+fn least_30() -> Records {
+    Records::Type30(Type30Records {
+        week: least::<Week>(),
+        clock: least::<Clock>(),
+        group_delay: least::<GroupDelay>(),
+        ionosphere: least::<Ionosphere>(),
+        bdt_utc: least::<BdtUtc>(),
+        earth_orientation: least::<EarthOrientation>(),
+        accuracy: least::<Accuracy>(),
+        health: least::<Health>(),
+    })
+}
+
+/// Whether a frame of the records is composed for the last second of the week, and its word is accepted as one of their type.
+fn is_composed(message_type: MessageType, records: Records) -> bool {
+    let second = 604_799;
+    let mut word = [0u8; 162];
+    let mut frame = [0u8; 125];
+    compose(&mut word, &Contents { second, records }, 58, &mut frame).is_ok()
+        && check(&word)
+            == Ok(Header {
+                message_type,
+                second,
+            })
+}
+
 fn main(rt: HostRuntime) -> anyhow::Result<()> {
     let mut trials = Trials {
         rt: &rt,
@@ -93,5 +147,13 @@ fn main(rt: HostRuntime) -> anyhow::Result<()> {
     for_each_kind(MessageType::Type10, &mut trials)?;
     for_each_kind(MessageType::Type30, &mut trials)?;
     ensure!(trials.all_right, "some trials did not go as they should");
+    ensure!(
+        is_composed(MessageType::Type10, least_10()),
+        "no frame of type 10 was composed"
+    );
+    ensure!(
+        is_composed(MessageType::Type30, least_30()),
+        "no frame of type 30 was composed"
+    );
     Ok(())
 }
