@@ -3,6 +3,7 @@
 
 ghost use Rattle.std.specs.Prelude.{◌<◌};
 
+use anyhow::bail;
 use blocks::Block;
 use decoders::Decoder;
 use erasure::ErasureDecoder;
@@ -102,6 +103,11 @@ fn time_asks<D: Decoder>(
     name: &str,
     levels: &[f32; 972],
 ) -> anyhow::Result<()> {
+    // A refusal is told, and not timed.
+    if let Err(fault) = decoder.ask(levels, &mut [0; 162]) {
+        let refusal = fault.refusal();
+        bail!("the decoder refuses its levels: {refusal}");
+    }
     let (mean, given) = time(rt, ASKS, || decoder.ask(levels, &mut [0; 162]) == Ok(true))?;
     println!(rt; "{name}: {mean} ns, {given} of {ASKS} given")?;
     Ok(())

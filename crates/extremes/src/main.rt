@@ -3,7 +3,7 @@
 //! It also composes a frame of the least counts of each type, and prints nothing of that where it goes as it should.
 #![tactic(auto)]
 
-use anyhow::ensure;
+use anyhow::{bail, ensure};
 use blocks::fault::BlockFault;
 use blocks::text::Described;
 use blocks::{Block, read, write};
@@ -126,17 +126,25 @@ fn least_30() -> Records {
     })
 }
 
-/// Whether a frame of the records is composed for the last second of the week, and its word is accepted as one of their type.
-fn is_composed(message_type: MessageType, records: Records) -> bool {
+/// Composes a frame of the records for the last second of the week, and has its word accepted as one of their type.
+fn try_composing(message_type: MessageType, records: Records) -> anyhow::Result<()> {
+    let number = message_type.number();
     let second = 604_799;
     let mut word = [0u8; 162];
     let mut frame = [0u8; 125];
-    compose(&mut word, &Contents { second, records }, 58, &mut frame).is_ok()
-        && check(&word)
+    if let Err(fault) = compose(&mut word, &Contents { second, records }, 58, &mut frame) {
+        let refusal = fault.refusal();
+        bail!("no frame of type {number} was composed: {refusal}");
+    }
+    ensure!(
+        check(&word)
             == Ok(Header {
                 message_type,
                 second,
-            })
+            }),
+        "no frame of type {number} was composed"
+    );
+    Ok(())
 }
 
 fn main(rt: HostRuntime) -> anyhow::Result<()> {
@@ -147,13 +155,6 @@ fn main(rt: HostRuntime) -> anyhow::Result<()> {
     for_each_kind(MessageType::Type10, &mut trials)?;
     for_each_kind(MessageType::Type30, &mut trials)?;
     ensure!(trials.all_right, "some trials did not go as they should");
-    ensure!(
-        is_composed(MessageType::Type10, least_10()),
-        "no frame of type 10 was composed"
-    );
-    ensure!(
-        is_composed(MessageType::Type30, least_30()),
-        "no frame of type 30 was composed"
-    );
-    Ok(())
+    try_composing(MessageType::Type10, least_10())?;
+    try_composing(MessageType::Type30, least_30())
 }

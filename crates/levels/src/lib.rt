@@ -8,6 +8,7 @@ ghost use Rattle.std.specs.Prelude.{◌≡◌, ◌+◌, ◌/◌, ◌<◌, ◌≤
 ghost use Rattle.bits.specs.Bits.{bits_of};
 ghost use Rattle.levels.specs.Faults.{first_illegal, level_fault, FirstIllegal, LegalBelow};
 ghost use Rattle.parity.specs.Bytes.{OkUnless};
+ghost use Rattle.parity.specs.Code.{SymbolList};
 ghost use Rattle.levels.specs.Hard.{hard, symbol_at};
 ghost use Rattle.levels.specs.Levels.{bit, legal, level_at, levels_in, Negative, WithinFour};
 
@@ -85,7 +86,8 @@ fn symbol_of(six: &[f32; 6]) -> u8
 
 /// The symbols that the levels of a word read as.
 fn symbols_of(levels: &[f32; 972]) -> [u8; 162]
-    ensures { result ≡ hard levels.now }
+    ensures same { result ≡ hard levels.now }
+    ensures symbols { SymbolList 162 result }
 {
     let (sixes, _) = levels.as_chunks::<6>();
     array::from_fn(|k| symbol_of(&sixes[k]))

@@ -1,8 +1,9 @@
 -- The sum of a row, and the factor that a place has in it.
-use Rattle.std.proofs.Common.{◌≡◌, ℕ, ◌<◌, true, false, not, ◌&&◌, eqb, ltb, ◌≢◌, List, [], ◌∷◌, length, map, sym, refl, ap, ◌∙◌, ap₂, inl, inr, arith, lit<}
+use Rattle.std.proofs.Common.{◌≡◌, ℕ, ◌<◌, Bool, true, false, not, ◌&&◌, eqb, ltb, ◌≢◌, List, [], ◌∷◌, length, get_or, map, unwrap_or, sym, refl, ap, ◌∙◌, ap₂, inl, inr, arith, lit<}
 use mathlib.Core.Path.{subst⁻¹}
-use Rattle.std.specs.List.{find}
-use Rattle.std.specs.Option.{option_map_or}
+use Rattle.std.specs.List.{find, position_or_len}
+use Rattle.std.proofs.lemmas.List.Folds.{find_at}
+use Rattle.std.proofs.lemmas.Option.{unwrap_or-slice_get}
 use lib.Bits.{bit_xor, xor_zero_l, xor_zero_r}
 use Rattle.std.proofs.lemmas.Bool.{cases_Bool, and_parts, and_left, and_right, eq-eqb, eqb-true, eqb-false, ltb-true, not-true, cond-true, cond-false}
 use Rattle.gf64.specs.Field.{mul}
@@ -77,15 +78,22 @@ factor_present x (p ∷ ps) (f ∷ fs) l t z =
           ∙ factor_present x ps fs (omega arith) q.rest (sym (cond-false (eqb p x) f (factor_in x ps fs) e) ∙ z)
     ]
 
--- the same, found in a row of places with their factors
-pub factor_found : (x : ℕ) (row : List (ℕ × ℕ)) → option_map_or (λ e. e.1) (find (λ e. eqb e.0 x) row) 0 ≡ factor_in x (map (λ e. e.0) row) (map (λ e. e.1) row)
+found_first : (x : ℕ) (row : List (ℕ × ℕ)) → (unwrap_or (find (λ e. eqb e.0 x) row) (0, 0)).1 ≡ factor_in x (map (λ e. e.0) row) (map (λ e. e.1) row)
 unfolding factor_in
-factor_found x [] = refl
-factor_found x (e ∷ row) =
+found_first x [] = refl
+found_first x (e ∷ row) =
     elim (cases_Bool (eqb e.0 x)) [
       | inl t ↦ rw t refl
-      | inr t ↦ rw t (factor_found x row)
+      | inr t ↦ rw t (found_first x row)
     ]
+
+-- the same, where a row of places with their factors is searched; past its end the factor is 0
+pub factor_found : (x : ℕ) (row : List (ℕ × ℕ))
+    → (get_or row (position_or_len (λ e. eqb e.0 x) row) (0, 0)).1 ≡ factor_in x (map (λ e. e.0) row) (map (λ e. e.1) row)
+factor_found x row =
+    let test : ℕ × ℕ → Bool = λ e. eqb e.0 x in
+    ap (λ e. e.1) (sym (ap (λ o. unwrap_or o (0, 0)) (find_at test row) ∙ unwrap_or-slice_get row (position_or_len test row) (0, 0)))
+    ∙ found_first x row
 
 -- ---- sums of what is 0 nearly everywhere
 

@@ -128,8 +128,8 @@ pub fn factor_at(row: usize, place: usize) -> u8
     let Some(row) = table::rows().get(row) else {
         return 0;
     };
-    match row.iter().find(|entry| entry.0 as usize == place) {
-        Some(entry) => entry.1,
+    match row.iter().position(|entry| entry.0 as usize == place) {
+        Some(j) => row[j].1,
         None => 0,
     }
 }

@@ -1,11 +1,11 @@
 -- The numbers of the layers and of the reasons.
-use Rattle.std.specs.Prelude.{ℕ}
+use Rattle.std.specs.Prelude.{◌≡◌, ℕ, ◌⊎◌}
 use Rattle.refusal.specs.declared.Layer.{Layer}
 use Rattle.refusal.specs.declared.Layer.TheVariants.{Levels, Header, Decoder, Word, Message, Block, Rows, Writer}
 use Rattle.refusal.specs.declared.Reason.{Reason}
 use Rattle.refusal.specs.declared.Reason.TheVariants.{WrongLength, NoSatellite, IllegalLevel, WrongPreamble, OtherSatellite, ReservedBit}
 use Rattle.refusal.specs.declared.Reason.TheVariants.{NoWord, NoSymbol, NonzeroSum, WrongCrc, WrongType, LateSecond}
-use Rattle.refusal.specs.declared.Reason.TheVariants.{OutOfRange, NoMessage, OtherBlock, BlockTwice, NoBlock}
+use Rattle.refusal.specs.declared.Reason.TheVariants.{OutOfRange, NoMessage, OtherBlock, BlockTwice, NoBlock, Unknown}
 
 abbrev pub layer_number : Layer → ℕ
 layer_number Levels = 1
@@ -35,3 +35,9 @@ reason_number NoMessage = 14
 reason_number OtherBlock = 15
 reason_number BlockTwice = 16
 reason_number NoBlock = 17
+reason_number (Unknown n) = n
+
+-- r has the number n, and is the reason of that number wherever one is known
+pub record Reasoned (n : ℕ) (r : Reason) : Type 0 where
+  pub own : reason_number r ≡ n
+  pub known : (s : Reason) → reason_number s ≡ n → (s ≡ r) ⊎ (s ≡ Unknown n)

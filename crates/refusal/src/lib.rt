@@ -5,7 +5,7 @@
 #![tactic(auto)]
 
 ghost use Rattle.std.specs.Prelude.{◌≡◌, Some};
-ghost use Rattle.refusal.specs.Numbers.{layer_number, reason_number};
+ghost use Rattle.refusal.specs.Numbers.{layer_number, reason_number, Reasoned};
 ghost use Rattle.refusal.specs.Lines.{refused_line};
 
 use std::fmt;
@@ -35,31 +35,81 @@ impl Layer {
 /// Why something is refused, by its number.
 #[derive(Clone, Copy, PartialEq, Debug)]
 pub enum Reason {
-    WrongLength = 1,
-    NoSatellite = 2,
-    IllegalLevel = 3,
-    WrongPreamble = 4,
-    OtherSatellite = 5,
-    ReservedBit = 6,
-    NoWord = 7,
-    NoSymbol = 8,
-    NonzeroSum = 9,
-    WrongCrc = 10,
-    WrongType = 11,
-    LateSecond = 12,
-    OutOfRange = 13,
-    NoMessage = 14,
-    OtherBlock = 15,
-    BlockTwice = 16,
-    NoBlock = 17,
+    WrongLength,
+    NoSatellite,
+    IllegalLevel,
+    WrongPreamble,
+    OtherSatellite,
+    ReservedBit,
+    NoWord,
+    NoSymbol,
+    NonzeroSum,
+    WrongCrc,
+    WrongType,
+    LateSecond,
+    OutOfRange,
+    NoMessage,
+    OtherBlock,
+    BlockTwice,
+    NoBlock,
+    /// A number that stands for none of these.
+    // Its number comes with it, so the others have theirs in `number`, and not as discriminants.
+    Unknown(u8),
 }
 
 impl Reason {
-    /// 1 to 17, in their order.
+    /// 1 to 17, in their order; of an unknown one the number that it holds.
     pub fn number(self) -> u8
         ensures { result ≡ reason_number self }
     {
-        self as u8
+        match self {
+            Reason::WrongLength => 1,
+            Reason::NoSatellite => 2,
+            Reason::IllegalLevel => 3,
+            Reason::WrongPreamble => 4,
+            Reason::OtherSatellite => 5,
+            Reason::ReservedBit => 6,
+            Reason::NoWord => 7,
+            Reason::NoSymbol => 8,
+            Reason::NonzeroSum => 9,
+            Reason::WrongCrc => 10,
+            Reason::WrongType => 11,
+            Reason::LateSecond => 12,
+            Reason::OutOfRange => 13,
+            Reason::NoMessage => 14,
+            Reason::OtherBlock => 15,
+            Reason::BlockTwice => 16,
+            Reason::NoBlock => 17,
+            Reason::Unknown(number) => number,
+        }
+    }
+}
+
+/// The reason that a number stands for.
+impl From<u8> for Reason {
+    ghost from_gives = { Reasoned };
+
+    fn from(number: u8) -> Reason {
+        match number {
+            1 => Reason::WrongLength,
+            2 => Reason::NoSatellite,
+            3 => Reason::IllegalLevel,
+            4 => Reason::WrongPreamble,
+            5 => Reason::OtherSatellite,
+            6 => Reason::ReservedBit,
+            7 => Reason::NoWord,
+            8 => Reason::NoSymbol,
+            9 => Reason::NonzeroSum,
+            10 => Reason::WrongCrc,
+            11 => Reason::WrongType,
+            12 => Reason::LateSecond,
+            13 => Reason::OutOfRange,
+            14 => Reason::NoMessage,
+            15 => Reason::OtherBlock,
+            16 => Reason::BlockTwice,
+            17 => Reason::NoBlock,
+            _ => Reason::Unknown(number),
+        }
     }
 }
 
@@ -107,6 +157,7 @@ impl fmt::Display for InWords {
             Reason::OtherBlock => write!(f, "block {place} is not of this message type"),
             Reason::BlockTwice => write!(f, "block {place} was put already"),
             Reason::NoBlock => write!(f, "block {place} is missing"),
+            Reason::Unknown(number) => write!(f, "refusal {number} is not known"),
         }
     }
 }

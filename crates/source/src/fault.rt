@@ -24,7 +24,7 @@ pub enum SourceFault {
 
 impl SourceFault {
     /// Its number, layer and place, where a message or a frame is refused.
-    pub fn refusal(self) -> Option<Refusal> {
+    pub(crate) fn refusal(self) -> Option<Refusal> {
         match self {
             SourceFault::Text(_) | SourceFault::OutOfRange(_) => None,
             SourceFault::Writer(fault) => Some(fault.refusal()),

@@ -1,8 +1,10 @@
 use Rattle.std.proofs.Common.{◌≡◌, ◌/◌, [], length, arith, rules, lit<}
+use mathlib.Core.Path.{subst⁻¹}
 use Rattle.std.proofs.iter.Serving.{serving}
-use Rattle.levels.proofs.Hard.{hard_sixes}
+use Rattle.parity.specs.Code.{SymbolList}
+use Rattle.levels.proofs.Hard.{hard_sixes, hard_symbols}
 use Rattle.levels.proofs.Chunks.{made_map}
-use Rattle.levels.specs.Hard.{symbol_at}
+use Rattle.levels.specs.Hard.{hard, symbol_at}
 use Rattle.levels.proofs.symbols_of.Goals as goal
 
 pub from_fn-requires : goal.from_fn-requires
@@ -18,4 +20,5 @@ returns c =
     let front = c.as_chunks.ensures.front in
     let count : length levels / 6 ≡ 162 = omega arith in
     let all = hard_sixes 162 levels (omega arith) in
-    cc
+    let same : c.from_fn.result ≡ hard levels = cc in
+    record { same = same; symbols = subst⁻¹ (SymbolList 162) same (hard_symbols 162 levels (omega arith)) }

@@ -7,8 +7,8 @@ use Rattle.parity.proofs.Symbols+162.row_sum.Goals as goal
 
 pub sum-requires : goal.sum-requires
 sum-requires c =
-    let h = row_got c.rows.result.now c.args.row c.get.result c.in-Some.row c.rows.ensures c.get.ensures.lookup c.in-Some.is in
-    rw h.1 at (Contains-get_or rows c.args.row [] h.0)
+    let h = row_got _ _ c.get.result c.in-Some.row c.rows.ensures c.get.ensures.lookup c.in-Some.is in
+    rw h.1 at (Contains-get_or rows _ [] h.0)
 
 pub returns-in-Some-clause-same : goal.returns-in-Some-clause-same
 returns-in-Some-clause-same c =
