@@ -1,7 +1,8 @@
 -- The sum of a row, and the factor that a place has in it.
-use Rattle.std.proofs.Common.{◌≡◌, ℕ, ◌<◌, Bool, true, false, not, ◌&&◌, eqb, ltb, ◌≢◌, List, [], ◌∷◌, length, get_or, map, unwrap_or, sym, refl, ap, ◌∙◌, ap₂, inl, inr, arith, lit<}
+use Rattle.std.proofs.Common.{◌≡◌, ℕ, ◌<◌, Bool, true, false, not, ◌&&◌, eqb, ltb, ◌≢◌, List, [], ◌∷◌, length, Option, Some, None, get_or, map, unwrap_or, sym, refl, ap, ◌∙◌, ap₂, inl, inr, arith, lit<}
 use mathlib.Core.Path.{subst⁻¹}
 use Rattle.std.specs.List.{find, position_or_len}
+use Rattle.std.specs.Option.{option_map_or}
 use Rattle.std.proofs.lemmas.List.Folds.{find_at}
 use Rattle.std.proofs.lemmas.Option.{unwrap_or-slice_get}
 use lib.Bits.{bit_xor, xor_zero_l, xor_zero_r}
@@ -78,22 +79,28 @@ factor_present x (p ∷ ps) (f ∷ fs) l t z =
           ∙ factor_present x ps fs (omega arith) q.rest (sym (cond-false (eqb p x) f (factor_in x ps fs) e) ∙ z)
     ]
 
-found_first : (x : ℕ) (row : List (ℕ × ℕ)) → (unwrap_or (find (λ e. eqb e.0 x) row) (0, 0)).1 ≡ factor_in x (map (λ e. e.0) row) (map (λ e. e.1) row)
+-- the same, found in a row of places with their factors
+pub factor_found : (x : ℕ) (row : List (ℕ × ℕ)) → option_map_or (λ e. e.1) (find (λ e. eqb e.0 x) row) 0 ≡ factor_in x (map (λ e. e.0) row) (map (λ e. e.1) row)
 unfolding factor_in
-found_first x [] = refl
-found_first x (e ∷ row) =
+factor_found x [] = refl
+factor_found x (e ∷ row) =
     elim (cases_Bool (eqb e.0 x)) [
       | inl t ↦ rw t refl
-      | inr t ↦ rw t (found_first x row)
+      | inr t ↦ rw t (factor_found x row)
     ]
 
--- the same, where a row of places with their factors is searched; past its end the factor is 0
-pub factor_found : (x : ℕ) (row : List (ℕ × ℕ))
+or_zero : (o : Option (ℕ × ℕ)) → (unwrap_or o (0, 0)).1 ≡ option_map_or (λ e. e.1) o 0
+or_zero None = refl
+or_zero (Some e) = refl
+
+-- the same, at the place where the search of the row stops; past its end the factor is 0
+pub factor_looked_up : (x : ℕ) (row : List (ℕ × ℕ))
     → (get_or row (position_or_len (λ e. eqb e.0 x) row) (0, 0)).1 ≡ factor_in x (map (λ e. e.0) row) (map (λ e. e.1) row)
-factor_found x row =
+factor_looked_up x row =
     let test : ℕ × ℕ → Bool = λ e. eqb e.0 x in
     ap (λ e. e.1) (sym (ap (λ o. unwrap_or o (0, 0)) (find_at test row) ∙ unwrap_or-slice_get row (position_or_len test row) (0, 0)))
-    ∙ found_first x row
+    ∙ or_zero (find test row)
+    ∙ factor_found x row
 
 -- ---- sums of what is 0 nearly everywhere
 

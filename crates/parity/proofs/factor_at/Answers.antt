@@ -9,7 +9,7 @@ use Rattle.std.proofs.lemmas.Option.{cond_some}
 use Rattle.parity.specs.Code.{factor_in, factor_of}
 use Rattle.parity.specs.Table.{bcnav3, places_in, factors_in}
 use Rattle.parity.proofs.Rows.{factor_of_lt, row_got, row_missing, factor_of_is}
-use Rattle.parity.proofs.Weights.{factor_found}
+use Rattle.parity.proofs.Weights.{factor_looked_up}
 use Rattle.parity.proofs.factor_at.Goals as goal
 use Rattle.parity.proofs.factor_at.Goals.{After-position}
 
@@ -26,7 +26,7 @@ factor : (c : After-position) → (get_or c.in-Some.row.now (at c) (0, 0)).1 ≡
 factor c =
     let x = c.args.place in
     let h = row_got _ _ c.get.result c.in-Some.row c.rows.ensures c.get.ensures.lookup c.in-Some.is in
-    factor_found x c.in-Some.row.now ∙ sym (factor_of_is c.args.row x ∙ ap (λ row. factor_in x (places_in row) (factors_in row)) h.1)
+    factor_looked_up x c.in-Some.row.now ∙ sym (factor_of_is c.args.row x ∙ ap (λ row. factor_in x (places_in row) (factors_in row)) h.1)
 
 at_place : (c : After-position) (j : ℕ) → c.position.result ≡ Some j → (get_or c.in-Some.row.now j (0, 0)).1 ≡ factor_of bcnav3 c.args.row c.args.place
 at_place c j e =
